@@ -1,0 +1,8 @@
+-- Theorems about the definitions of `paper`, in the order in which they build on each other.
+pub mod Tables
+pub mod Xor
+pub mod Strings
+pub mod Digits
+pub mod BitStrings
+pub mod Multiples
+pub mod Padding

@@ -1,0 +1,131 @@
+-- Document 01: headers, the answers in the order in which they are tested, and for each call the number and the length that it returns
+-- and every byte of the output buffer. The numbers are 01's answers.
+use mathlib.Core.Bool.{_||_, _&&_, not}
+use mathlib.Core.List.{List, [], _∷_, _++_}
+use mathlib.Core.Option.{Option, none, some}
+use Prim.Native.Nat.{ℕ, zero, suc, _+_, _*_}
+use lib.Dec.{eqb, leb, ltb}
+use lib.ListN.{length, take, drop, replicate}
+use Rattle.paper.specs.Strings.{Bytes, if_then_else_, digits}
+use Rattle.paper.specs.Figure6.{keyOf, E}
+use Rattle.paper.specs.Figure5.{encrypt, decrypt}
+
+-- ---- Headers
+
+abbrev pub mostStrings : ℕ
+mostStrings = 16
+
+abbrev pub longestString : ℕ
+longestString = 1024
+
+-- a string in front of the others, where these read
+abbrev pub inFront : Bytes → Option (List Bytes) → Option (List Bytes)
+inFront s none = none
+inFront s (some ss) = some (s ∷ ss)
+
+-- n strings, each after its two-byte length, high byte first, and nothing after the last
+unfoldable pub readStrings : ℕ → Bytes → Option (List Bytes)
+readStrings zero [] = some []
+readStrings zero (b ∷ h) = none
+readStrings (suc n) [] = none
+readStrings (suc n) (high ∷ []) = none
+readStrings (suc n) (high ∷ low ∷ h) =
+    let size = high * 256 + low in
+    if leb size longestString && leb size (length h) then inFront (take size h) (readStrings n (drop size h)) else none
+
+-- one byte count from 1 to 16, then that many strings; none where the header does not read
+unfoldable pub readHeader : Bytes → Option (List Bytes)
+readHeader [] = none
+readHeader (count ∷ h) = if leb 1 count && leb count mostStrings then readStrings count h else none
+
+-- the strings after each other, each after its two-byte length
+unfoldable pub writeStrings : List Bytes → Bytes
+writeStrings [] = []
+writeStrings (s ∷ ss) = digits 256 2 (length s) ++ s ++ writeStrings ss
+
+-- the header of some strings
+unfoldable pub writeHeader : List Bytes → Bytes
+writeHeader ss = length ss ∷ writeStrings ss
+
+-- an item that is left out where it has no bytes
+abbrev pub optional : Bytes → List Bytes → List Bytes
+optional s ss = if eqb (length s) 0 then ss else s ∷ ss
+
+-- the log header's strings: nonce and host always, collector and locale where they have bytes
+unfoldable pub logItems : Bytes → Bytes → Bytes → Bytes → List Bytes
+logItems nonce host collector locale = nonce ∷ host ∷ optional collector (optional locale [])
+
+unfoldable pub logHeader : Bytes → Bytes → Bytes → Bytes → Bytes
+logHeader nonce host collector locale = writeHeader (logItems nonce host collector locale)
+
+-- ---- What a call returns, and what it leaves in its output buffer
+
+pub record Outcome : Type 0 where
+  pub number : ℕ
+  pub size : ℕ
+  pub output : Bytes
+
+-- a refusal that leaves the output as it was
+abbrev pub refused : ℕ → Bytes → Outcome
+refused n out = record { number = n; size = 0; output = out }
+
+-- answer 0: what is written stands first in the output, and all later bytes are as they were
+abbrev pub done : ℕ → Bytes → Bytes → Outcome
+done n written out = record { number = 0; size = n; output = written ++ drop (length written) out }
+
+abbrev pub longestSealed : ℕ
+longestSealed = 65536
+
+abbrev pub longestStretch : ℕ
+longestStretch = 64
+
+-- sealing with the header's strings: 3, 4, 6, 0
+unfoldable pub sealUnder : Option (List Bytes) → Bytes → ℕ → Bytes → Bytes → Outcome
+sealUnder none key stretch text out = refused 3 out
+sealUnder (some strings) key stretch text out =
+    let size = length text + stretch in
+    if ltb longestSealed size then refused 4 out
+    else if ltb (length out) size then refused 6 out
+    else done size (encrypt (E (keyOf key)) strings stretch text) out
+
+-- sealing: 1, 2, then the header
+unfoldable pub sealing : Bytes → Bytes → ℕ → Bytes → Bytes → Outcome
+sealing key header stretch text out =
+    if not (eqb (length key) 48) then refused 1 out
+    else if ltb longestStretch stretch then refused 2 out
+    else sealUnder (readHeader header) key stretch text out
+
+-- after 1 to 6: the check fails, with zeros for the |C| bytes of the sealed string, or the text and as many zeros as the stretch
+unfoldable pub opened : Option Bytes → ℕ → ℕ → Bytes → Outcome
+opened none stretch size out = record { number = 7; size = 0; output = replicate size 0 ++ drop size out }
+opened (some text) stretch size out = done (length text) (text ++ replicate stretch 0) out
+
+-- opening with the header's strings: 3, 4, 5, 6, then 7 or 0
+unfoldable pub openUnder : Option (List Bytes) → Bytes → ℕ → Bytes → Bytes → Outcome
+openUnder none key stretch sealed out = refused 3 out
+openUnder (some strings) key stretch sealed out =
+    if ltb longestSealed (length sealed) then refused 4 out
+    else if ltb (length sealed) stretch then refused 5 out
+    else if ltb (length out) (length sealed) then refused 6 out
+    else opened (decrypt (E (keyOf key)) strings stretch sealed) stretch (length sealed) out
+
+-- opening: 1, 2, then the header
+unfoldable pub opening : Bytes → Bytes → ℕ → Bytes → Bytes → Outcome
+opening key header stretch sealed out =
+    if not (eqb (length key) 48) then refused 1 out
+    else if ltb longestStretch stretch then refused 2 out
+    else openUnder (readHeader header) key stretch sealed out
+
+-- the second form of opening hands back the text's part of the output, which is empty after a refusal
+unfoldable pub openedPart : Bytes → Bytes → ℕ → Bytes → Bytes → Bytes
+openedPart key header stretch sealed out =
+    let o = opening key header stretch sealed out in
+    take (o .size) (o .output)
+
+-- the log header builder: 8, 6, 0
+unfoldable pub buildingLogHeader : Bytes → Bytes → Bytes → Bytes → Bytes → Outcome
+buildingLogHeader nonce host collector locale out =
+    let header = logHeader nonce host collector locale in
+    if ltb longestString (length nonce) || ltb longestString (length host) || ltb longestString (length collector) || ltb longestString (length locale) then refused 8 out
+    else if ltb (length out) (length header) then refused 6 out
+    else done (length header) header out
