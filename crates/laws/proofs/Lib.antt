@@ -6,3 +6,4 @@ pub mod Digits
 pub mod BitStrings
 pub mod Multiples
 pub mod Padding
+pub mod Round

@@ -1,0 +1,112 @@
+-- The AES round: multiples of bytes with no branch, MixColumns on all columns at once, and rounds one after the other.
+use mathlib.Core.List.{List, [], _∷_, _++_, map}
+use mathlib.Core.Path.{_≡_, refl, ap, ap₂, sym, _∙_}
+use Prim.Native.Nat.{ℕ, zero, suc, _+_, _-_, _*_, _/_, _%_, _≤_, _<_}
+use native.Mathlib.Omega.{arith}
+use lib.Bits.{bitXor, xor-comm, xor-zero-r}
+use lib.Dec.{eqb}
+use lib.ListN.{length, getD, take, drop}
+use lib.Seq.{take-suc, take-all}
+use Rattle.paper.specs.Strings.{Bytes, if_then_else_, tab, zip, _⊕_}
+use Rattle.paper.specs.Fips197.{xtime, _•_, mulBits, at, state, MixColumns}
+use Rattle.paper.specs.Section7.{aesenc, rounds, AES}
+use Rattle.laws.proofs.Tables.{tab-entries}
+use Rattle.laws.proofs.Xor.{xor-assoc, xor-left-comm}
+
+-- ---- multiples of bytes
+
+by-top : (t v : ℕ) → t < 2 → (if eqb t 0 then v else bitXor v 27) ≡ bitXor v (t * 27)
+by-top zero v h = sym (xor-zero-r v)
+by-top (suc zero) v h = refl
+by-top (suc (suc t)) v h = absurd (omega arith)
+
+-- the bit that is lost, times 1b, is what xtime adds
+pub xtime-mask : (x : ℕ) → x < 256 → xtime x ≡ bitXor (x * 2 % 256) (x / 128 * 27)
+xtime-mask x h = by-top (x / 128) (x * 2 % 256) (omega arith)
+
+-- ---- MixColumns
+
+-- a byte of the result for each row: d is the doubles, s the bytes, each from its row on
+row0 : (d0 d1 s1 s2 s3 : ℕ) → bitXor d0 (bitXor (bitXor d1 s1) (bitXor s2 s3)) ≡ bitXor (bitXor (bitXor d0 (bitXor d1 s1)) s2) s3
+row0 d0 d1 s1 s2 s3 = simp xor-assoc
+
+row1 : (d1 d2 s2 s3 s0 : ℕ) → bitXor d1 (bitXor (bitXor d2 s2) (bitXor s3 s0)) ≡ bitXor (bitXor (bitXor s0 d1) (bitXor d2 s2)) s3
+row1 d1 d2 s2 s3 s0 = simp (xor-assoc, xor-comm, xor-left-comm)
+
+row2 : (d2 d3 s3 s0 s1 : ℕ) → bitXor d2 (bitXor (bitXor d3 s3) (bitXor s0 s1)) ≡ bitXor (bitXor (bitXor s0 s1) d2) (bitXor d3 s3)
+row2 d2 d3 s3 s0 s1 = simp (xor-assoc, xor-comm, xor-left-comm)
+
+row3 : (d3 d0 s0 s1 s2 : ℕ) → bitXor d3 (bitXor (bitXor d0 s0) (bitXor s1 s2)) ≡ bitXor (bitXor (bitXor (bitXor d0 s0) s1) s2) d3
+row3 d3 d0 s0 s1 s2 = simp (xor-assoc, xor-comm, xor-left-comm)
+
+-- each column turned up by one row
+abbrev pub turned : Bytes → Bytes
+turned s = state (λ r c. at s ((r + 1) % 4) c)
+
+-- 2 of a byte and, turned up, 3 of the byte and the two below it
+abbrev pub mixedAll : (ℕ → ℕ) → Bytes → Bytes
+mixedAll f s = map f s ⊕ turned ((map f s ⊕ s) ⊕ turned (s ⊕ turned s))
+
+-- the four columns of MixColumns over any doubling f
+abbrev columns : (ℕ → ℕ) → (ℕ → ℕ) → Bytes
+columns f s = column 0 ++ column 4 ++ column 8 ++ column 12
+  where
+    column : ℕ → Bytes
+    column c =
+        bitXor (bitXor (bitXor (f (s c)) (bitXor (f (s (c + 1))) (s (c + 1)))) (s (c + 2))) (s (c + 3))
+        ∷ bitXor (bitXor (bitXor (s c) (f (s (c + 1)))) (bitXor (f (s (c + 2))) (s (c + 2)))) (s (c + 3))
+        ∷ bitXor (bitXor (bitXor (s c) (s (c + 1))) (f (s (c + 2)))) (bitXor (f (s (c + 3))) (s (c + 3)))
+        ∷ bitXor (bitXor (bitXor (bitXor (f (s c)) (s c)) (s (c + 1))) (s (c + 2))) (f (s (c + 3)))
+        ∷ []
+
+all-columns : (f s : ℕ → ℕ) → mixedAll f (tab 16 s) ≡ columns f s
+unfolding _⊕_ zip
+all-columns f s =
+    λ i.
+    row0 (f (s 0)) (f (s 1)) (s 1) (s 2) (s 3) i
+    ∷ row1 (f (s 1)) (f (s 2)) (s 2) (s 3) (s 0) i
+    ∷ row2 (f (s 2)) (f (s 3)) (s 3) (s 0) (s 1) i
+    ∷ row3 (f (s 3)) (f (s 0)) (s 0) (s 1) (s 2) i
+    ∷ row0 (f (s 4)) (f (s 5)) (s 5) (s 6) (s 7) i
+    ∷ row1 (f (s 5)) (f (s 6)) (s 6) (s 7) (s 4) i
+    ∷ row2 (f (s 6)) (f (s 7)) (s 7) (s 4) (s 5) i
+    ∷ row3 (f (s 7)) (f (s 4)) (s 4) (s 5) (s 6) i
+    ∷ row0 (f (s 8)) (f (s 9)) (s 9) (s 10) (s 11) i
+    ∷ row1 (f (s 9)) (f (s 10)) (s 10) (s 11) (s 8) i
+    ∷ row2 (f (s 10)) (f (s 11)) (s 11) (s 8) (s 9) i
+    ∷ row3 (f (s 11)) (f (s 8)) (s 8) (s 9) (s 10) i
+    ∷ row0 (f (s 12)) (f (s 13)) (s 13) (s 14) (s 15) i
+    ∷ row1 (f (s 13)) (f (s 14)) (s 14) (s 15) (s 12) i
+    ∷ row2 (f (s 14)) (f (s 15)) (s 15) (s 12) (s 13) i
+    ∷ row3 (f (s 15)) (f (s 12)) (s 12) (s 13) (s 14) i
+    ∷ []
+
+pub mix-columns : (s : Bytes) → length s ≡ 16 → mixedAll xtime s ≡ MixColumns s
+unfolding MixColumns _•_ mulBits
+mix-columns s e = ap (mixedAll xtime) (tab-entries 16 s e) ∙ all-columns xtime (λ i. getD s i 0)
+
+-- ---- rounds
+
+rounds-last : (Ks : List Bytes) (K X : Bytes) → rounds (Ks ++ K ∷ []) X ≡ aesenc (rounds Ks X) K
+unfolding rounds
+rounds-last [] K X = refl
+rounds-last (K1 ∷ Ks) K X = rounds-last Ks K (aesenc X K1)
+
+-- round i, under key i of k: the keys before it have had theirs
+pub rounds-more : (i : ℕ) (k : List Bytes) (X : Bytes) → 1 ≤ i → i < length k
+    → rounds (take (i + 1 - 1) (drop 1 k)) X ≡ aesenc (rounds (take (i - 1) (drop 1 k)) X) (getD k i [])
+rounds-more zero k X h g = absurd (omega arith)
+rounds-more (suc i) [] X h g = absurd (omega arith)
+rounds-more (suc i) (K ∷ k) X h g =
+    let next : suc i + 1 - 1 ≡ suc i = omega arith in
+    let this : i ≡ suc i - 1 = omega arith in
+    ap (λ (n : ℕ). rounds (take n k) X) next
+    ∙ ap (λ (l : List Bytes). rounds l X) (take-suc k i [] (omega arith))
+    ∙ rounds-last (take i k) (getD k i []) X
+    ∙ ap (λ (n : ℕ). aesenc (rounds (take n k) X) (getD k i [])) this
+
+-- AES under n + 1 keys: the first is added, and n rounds follow
+pub AES-rounds : (n : ℕ) (k : List Bytes) (X : Bytes) → length k ≡ suc n → AES k X ≡ rounds (take n (drop 1 k)) (X ⊕ getD k 0 [])
+unfolding AES
+AES-rounds n [] X e = absurd (omega arith)
+AES-rounds n (K ∷ k) X e = ap (λ (l : List Bytes). rounds l (X ⊕ K)) (sym (take-all n k (omega arith)))
