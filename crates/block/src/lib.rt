@@ -73,7 +73,7 @@ pub fn double(x: [u8; 16]) -> [u8; 16]
 }
 
 // n·x, by section 7's rules: 0·x is zero, 2m·x is 2·(m·x), and (2m + 1)·x is 2m·x ⊕ x.
-pub fn times(n: u8, x: [u8; 16]) -> [u8; 16]
+pub fn times(n: u64, x: [u8; 16]) -> [u8; 16]
     ensures { λ r. ⌜ r ≡ n · x ⌝ }
 {
     if n == 0 {
@@ -88,11 +88,11 @@ pub fn times(n: u8, x: [u8; 16]) -> [u8; 16]
 }
 
 // 2^e·x: e doublings.
-pub fn two_to(e: usize, x: [u8; 16]) -> [u8; 16]
+pub fn two_to(e: u32, x: [u8; 16]) -> [u8; 16]
     ensures { λ r. ⌜ r ≡ twoTo e x ⌝ }
 {
     let mut r = x;
-    let mut i: usize = 0;
+    let mut i: u32 = 0;
     while i < e {
         let d = double(r);
         r = d;

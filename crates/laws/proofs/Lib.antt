@@ -7,3 +7,4 @@ pub mod BitStrings
 pub mod Multiples
 pub mod Padding
 pub mod Round
+pub mod BlockFunction

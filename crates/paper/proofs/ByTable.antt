@@ -1,7 +1,7 @@
 -- The block function with another function for the S-box, so that it can be computed by the table, and that it is E.
 use mathlib.Core.List.{List, [], _∷_, map}
 use mathlib.Core.Path.{_≡_, refl, ap, sym, fun-ext, _∙_}
-use Prim.Native.Nat.{ℕ, zero, suc, _+_, _-_, _*_}
+use Prim.Native.Nat.{ℕ, zero, suc, _-_, _*_}
 use Rattle.paper.specs.Strings.{Bytes, _⊕_}
 use Rattle.paper.specs.Fips197.{sbox, SubBytes, ShiftRows, MixColumns}
 use Rattle.paper.specs.Section7.{_·_, aesenc, rounds, AES}
@@ -38,7 +38,7 @@ module _ (A : List Bytes → Bytes → Bytes) (K : Key) where
   EOver (row zero) j X = A (k0 K) (X ⊕ j · K .J)
   EOver (row (suc zero)) j X = A (k1 K) (masked K j X)
   EOver (row (suc (suc zero))) j X = A (k2 K) (masked K j X)
-  EOver (row (suc (suc (suc i)))) j X = hashRowOver (3 + i) j X
+  EOver (row (suc (suc (suc i)))) j X = hashRowOver (suc (suc (suc i))) j X
 
 hashRow-same : (K : Key) (i j : ℕ) (X : Bytes) → hashRow K i j X ≡ hashRowOver AES K i j X
 unfolding hashRow hashRowOver
@@ -51,7 +51,7 @@ E-same K minus1 j X = refl
 E-same K (row zero) j X = refl
 E-same K (row (suc zero)) j X = refl
 E-same K (row (suc (suc zero))) j X = refl
-E-same K (row (suc (suc (suc i)))) j X = hashRow-same K (3 + i) j X
+E-same K (row (suc (suc (suc i)))) j X = hashRow-same K (suc (suc (suc i))) j X
 
 abbrev pub AES-looked : List Bytes → Bytes → Bytes
 AES-looked = AESBy looked

@@ -61,7 +61,7 @@ module _ (K : Key) where
   E (row zero) j X = AES4 k0 (X ⊕ j · K .J)
   E (row (suc zero)) j X = AES4 k1 (masked j X)
   E (row (suc (suc zero))) j X = AES4 k2 (masked j X)
-  E (row (suc (suc (suc i)))) j X = hashRow (3 + i) j X
+  E (row (suc (suc (suc i)))) j X = hashRow (suc (suc (suc i))) j X
 
 -- A block function by its two indices: E of a key, or any other
 abbrev pub BlockFunction : Type 0

@@ -1,0 +1,263 @@
+// The block function E of Figure 6 of the AEZ paper: the key record, the table of index pairs, and E itself.
+ghost use mathlib.Core.List.{List, [], _∷_};
+ghost use mathlib.Core.Path.{_≡_};
+ghost use Prim.Native.Nat.{_+_, _-_, _*_, _<_, _≤_};
+ghost use lib.ListN.{length};
+ghost use Rattle.paper.specs.Strings.{_⊕_};
+ghost use Rattle.paper.specs.Section7.{_·_, AES4};
+ghost use Rattle.paper.specs.Figure6.{keyOf, k0, k1, k2, K10, Defined, E};
+ghost use Rattle.tbc.specs.Meaning.{blocks, rowOf, Running};
+
+// The key: the blocks I, J and L.
+pub struct Key {
+    pub i: [u8; 16],
+    pub j: [u8; 16],
+    pub l: [u8; 16],
+}
+
+// The key of 48 bytes, I first.
+pub fn key_of(s: &[u8]) -> Key
+    requires { ⌜ length (now s) ≡ 48 ⌝ }
+    ensures { λ r. ⌜ blocks r ≡ keyOf (now (s .entry)) ⌝ }
+{
+    let i = block::load(s, 0);
+    let j = block::load(s, 16);
+    let l = block::load(s, 32);
+    Key { i, j, l }
+}
+
+// A pair of indices, (first, second); (-1, second) is minus with 1.
+pub struct Pair {
+    pub minus: bool,
+    pub first: u32,
+    pub second: u32,
+}
+
+// 01's table of index pairs, a row for each named use. Where the second index counts, the row has 0 for it, and `at` puts it in; the
+// hash's row has 2 for the first index, to which `string` adds the string's number.
+impl Pair {
+    pub const A: Pair = Pair {
+        minus: false,
+        first: 0,
+        second: 0,
+    };
+
+    pub const A_I: Pair = Pair {
+        minus: false,
+        first: 1,
+        second: 0,
+    };
+
+    pub const AA_I: Pair = Pair {
+        minus: false,
+        first: 2,
+        second: 0,
+    };
+
+    pub const X: Pair = Pair {
+        minus: false,
+        first: 0,
+        second: 1,
+    };
+
+    pub const Y: Pair = Pair {
+        minus: false,
+        first: 0,
+        second: 2,
+    };
+
+    pub const XX: Pair = Pair {
+        minus: true,
+        first: 1,
+        second: 1,
+    };
+
+    pub const YY: Pair = Pair {
+        minus: true,
+        first: 1,
+        second: 2,
+    };
+
+    pub const U: Pair = Pair {
+        minus: false,
+        first: 0,
+        second: 4,
+    };
+
+    pub const V: Pair = Pair {
+        minus: false,
+        first: 0,
+        second: 5,
+    };
+
+    pub const UU: Pair = Pair {
+        minus: true,
+        first: 1,
+        second: 4,
+    };
+
+    pub const VV: Pair = Pair {
+        minus: true,
+        first: 1,
+        second: 5,
+    };
+
+    pub const TINY: Pair = Pair {
+        minus: false,
+        first: 0,
+        second: 6,
+    };
+
+    pub const TINY_SHORT: Pair = Pair {
+        minus: false,
+        first: 0,
+        second: 7,
+    };
+
+    pub const TINY_LAST: Pair = Pair {
+        minus: false,
+        first: 0,
+        second: 3,
+    };
+
+    pub const PRF: Pair = Pair {
+        minus: true,
+        first: 1,
+        second: 3,
+    };
+
+    pub const HASH: Pair = Pair {
+        minus: false,
+        first: 2,
+        second: 0,
+    };
+
+    // The pair of the same row whose second index is i.
+    pub fn at(self, i: u32) -> Pair
+        ensures { λ r. ⌜ r ≡ record { minus = self .minus; first = self .first; second = i } ⌝ }
+    {
+        Pair {
+            minus: self.minus,
+            first: self.first,
+            second: i,
+        }
+    }
+
+    // The pair of the row that is s rows on.
+    pub fn string(self, s: u32) -> Pair
+        requires { ⌜ self .first + s < 4294967296 ⌝ }
+        ensures { λ r. ⌜ r ≡ record { minus = self .minus; first = self .first + s; second = self .second } ⌝ }
+    {
+        Pair {
+            minus: self.minus,
+            first: self.first + s,
+            second: self.second,
+        }
+    }
+}
+
+// Lines 402 and 403: the key lists.
+fn keys0(k: Key) -> [[u8; 16]; 5]
+    ensures { λ r. ⌜ r ≡ k0 (blocks k) ⌝ }
+{
+    let z = [0u8; 16];
+    let i = k.i;
+    let j = k.j;
+    let l = k.l;
+    [z, i, j, l, z]
+}
+
+fn keys1(k: Key) -> [[u8; 16]; 5]
+    ensures { λ r. ⌜ r ≡ k1 (blocks k) ⌝ }
+{
+    let z = [0u8; 16];
+    let i = k.i;
+    let j = k.j;
+    let l = k.l;
+    [z, j, l, i, z]
+}
+
+fn keys2(k: Key) -> [[u8; 16]; 5]
+    ensures { λ r. ⌜ r ≡ k2 (blocks k) ⌝ }
+{
+    let z = [0u8; 16];
+    let i = k.i;
+    let j = k.j;
+    let l = k.l;
+    [z, l, i, j, i]
+}
+
+fn keys10(k: Key) -> [[u8; 16]; 11]
+    ensures { λ r. ⌜ r ≡ K10 (blocks k) ⌝ }
+{
+    let z = [0u8; 16];
+    let i = k.i;
+    let j = k.j;
+    let l = k.l;
+    [z, i, l, j, i, l, j, i, l, j, i]
+}
+
+// Line 402's k0 over one multiple of J: lines 405, 408 and 409.
+fn under_multiple(k: Key, n: u64, x: [u8; 16]) -> [u8; 16]
+    ensures { λ r. ⌜ r ≡ AES4 (k0 (blocks k)) (x ⊕ n · k .j) ⌝ }
+{
+    let j = k.j;
+    let mask = block::times(n, j);
+    let y = block::xor(x, mask);
+    let keys = keys0(k);
+    aes::aes4(keys, y)
+}
+
+// Lines 408 and 409: the number of J's multiple that tells a row from 3 on from the others.
+fn row_number(row: u32) -> u64
+    requires { ⌜ 3 ≤ row ⌝ }
+    ensures { λ r. ⌜ r ≡ (row - 2) * 8 ⌝ }
+{
+    ((row - 2) as u64) * 8
+}
+
+// E for a pair whose second index counts up: lines 406 and 408. power is 2^floor((second - 1) / 8)·L, which a loop carries along.
+pub fn e_running(k: Key, p: Pair, power: [u8; 16], x: [u8; 16]) -> [u8; 16]
+    requires { ⌜ Running k p power ⌝ }
+    ensures { λ r. ⌜ r ≡ E (blocks k) (rowOf p) (p .second) x ⌝ }
+{
+    let row = p.first;
+    let j = k.j;
+    let low = block::times((p.second % 8) as u64, j);
+    let y = block::xor(x, low);
+    let masked = block::xor(y, power);
+    if row == 1 {
+        let keys = keys1(k);
+        return aes::aes4(keys, masked);
+    }
+    if row == 2 {
+        let keys = keys2(k);
+        return aes::aes4(keys, masked);
+    }
+    under_multiple(k, row_number(row), masked)
+}
+
+// E for any pair that Figure 6 defines.
+pub fn e(k: Key, p: Pair, x: [u8; 16]) -> [u8; 16]
+    requires { ⌜ Defined (rowOf p) (p .second) ⌝ }
+    ensures { λ r. ⌜ r ≡ E (blocks k) (rowOf p) (p .second) x ⌝ }
+{
+    let row = p.first;
+    let number = p.second;
+    if p.minus {
+        let j = k.j;
+        let mask = block::times(number as u64, j);
+        let y = block::xor(x, mask);
+        let keys = keys10(k);
+        return aes::aes10(keys, y);
+    }
+    if row == 0 {
+        return under_multiple(k, number as u64, x);
+    }
+    if number == 0 {
+        return under_multiple(k, row_number(row), x);
+    }
+    let l = k.l;
+    let power = block::two_to((number - 1) / 8, l);
+    e_running(k, p, power, x)
+}
