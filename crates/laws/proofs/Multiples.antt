@@ -5,15 +5,15 @@ use mathlib.Core.Logic.{_≢_}
 use mathlib.Core.Path.{_≡_, refl, ap, ap₂, sym, _∙_}
 use Prim.Native.Nat.{ℕ, zero, suc, _+_, _*_, _/_, _%_, _≤_, _<_}
 use native.Mathlib.Nat.{mod-eq-of-lt, mod-lt, zero-lt-suc}
+use native.Mathlib.Numerals.{add-one}
 use native.Mathlib.Omega.{arith}
 use borrow.Author.Tests.{eq-eqb, ne-eqb}
 use lib.Bits.{bitXor, xor-lt, xor-shifted, xor-zero-r}
 use lib.Dec.{eqb}
-use lib.ListN.{length, getD, set, drop, replicate, List·getD-append}
-use lib.Seq.{drop-append-le}
-use Rattle.paper.specs.Strings.{Bytes, Below, Digits, Block, if_then_else_, tab, tabFrom, _⊕_, digits, number, bits, bytes}
+use lib.ListN.{length, getD, set, drop, replicate, length-set, List·getD-append, List·getD-eq-default}
+use lib.Seq.{drop-append-le, getD-set-same, getD-set-other}
+use Rattle.paper.specs.Strings.{Bytes, Below, Digits, Block, if_then_else_, _⊕_, digits, number, bits, bytes}
 use Rattle.paper.specs.Section7.{zeros, shiftLeft, double, timesBits, _·_, twoTo}
-use Rattle.laws.proofs.Tables.{tab-entries}
 use Rattle.laws.proofs.Strings.{⊕-last}
 use Rattle.laws.proofs.Digits.{below-getD}
 use Rattle.laws.proofs.BitStrings.{digits-first, digits-last, bits-mod, length-bits, bytes-bits, number-small}
@@ -98,21 +98,33 @@ module _ (X : Bytes) (p : Block X) where
       ∙ ap (λ (l : Bytes). shifted X ⊕ l) (number-small lost small)
       ∙ ⊕-last 15 lost (shifted X) (length-shifted X ∙ p .len)
 
--- bytes 0 to 14, each moved up with the first bit of the next below it, and byte 15 moved up with low below it
-abbrev pub movedUp : Bytes → ℕ → Bytes
-movedUp X low =
-    tab 15 (λ i. bitXor (getD X i 0 * 2 % 256) (getD X (i + 1) 0 / 128)) ++ bitXor (getD X 15 0 * 2 % 256) low ∷ []
-
--- 2·X, entry by entry
-pub double-bytes : (X : Bytes) → Block X → double X ≡ movedUp X (getD X 0 0 / 128 * 135)
+-- 2·X, byte by byte: bytes 0 to 14, and byte 15
+shifted-at : (X : Bytes) (i : ℕ) → i < length X → getD (shifted X) i 0 ≡ bitXor (getD X i 0 * 2 % 256) (getD X (suc i) 0 / 128)
 unfolding shifted
-double-bytes X p =
-    in-last-byte X p
-    ∙ ap (λ (l : Bytes). set (shifted l) 15 (bitXor (getD (shifted l) 15 0) (lost X p))) (tab-entries 16 X (p .len))
-    ∙ ap (λ (m : ℕ). movedUp′ (bitXor m (lost X p))) (xor-zero-r (getD X 15 0 * 2 % 256))
-  where
-    movedUp′ : ℕ → Bytes
-    movedUp′ last = tab 15 (λ i. bitXor (getD X i 0 * 2 % 256) (getD X (i + 1) 0 / 128)) ++ last ∷ []
+shifted-at [] i h = absurd (omega arith)
+shifted-at (b ∷ X) zero h = refl
+shifted-at (b ∷ X) (suc i) h = shifted-at X i (omega arith)
+
+module _ (X : Bytes) (p : Block X) where
+  pub length-double : length (double X) ≡ 16
+  length-double =
+      ap length (in-last-byte X p) ∙ length-set (shifted X) 15 (bitXor (getD (shifted X) 15 0) (lost X p)) ∙ length-shifted X ∙ p .len
+
+  pub double-at : (i : ℕ) → i < 15 → getD (double X) i 0 ≡ bitXor (getD X i 0 * 2 % 256) (getD X (i + 1) 0 / 128)
+  double-at i h =
+      ap (λ (l : Bytes). getD l i 0) (in-last-byte X p)
+      ∙ getD-set-other (shifted X) 15 i (bitXor (getD (shifted X) 15 0) (lost X p)) 0 (λ e. omega arith)
+      ∙ shifted-at X i (omega (arith, p .len))
+      ∙ ap (λ (n : ℕ). bitXor (getD X i 0 * 2 % 256) (getD X n 0 / 128)) (sym (add-one i))
+
+  -- the bit that is lost, times 135, goes into byte 15
+  pub double-at-15 : getD (double X) 15 0 ≡ bitXor (getD X 15 0 * 2 % 256) (getD X 0 0 / 128 * 135)
+  double-at-15 =
+      let none : getD X 16 0 ≡ 0 = List·getD-eq-default X 0 (omega (arith, p .len)) in
+      ap (λ (l : Bytes). getD l 15 0) (in-last-byte X p)
+      ∙ getD-set-same (shifted X) 15 (bitXor (getD (shifted X) 15 0) (lost X p)) 0 (omega (arith, length-shifted X, p .len))
+      ∙ ap (λ (m : ℕ). bitXor m (lost X p))
+      (shifted-at X 15 (omega (arith, p .len)) ∙ ap (λ (m : ℕ). bitXor (getD X 15 0 * 2 % 256) (m / 128)) none ∙ xor-zero-r (getD X 15 0 * 2 % 256))
 
 -- ---- n·X
 

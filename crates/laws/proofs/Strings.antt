@@ -2,13 +2,12 @@
 -- inverse where the second string is not the shorter one.
 use mathlib.Core.List.{List, [], _∷_, _++_}
 use mathlib.Core.Path.{_≡_, refl, ap, ap₂, sym, _∙_}
-use Prim.Native.Nat.{ℕ, zero, suc, _+_, _≤_}
-use native.Mathlib.Nat.{le-of-suc-le-suc, not-suc-le-zero, add-zero, suc-add, add-suc}
+use Prim.Native.Nat.{ℕ, zero, suc, _≤_, _<_}
+use native.Mathlib.Nat.{le-of-suc-le-suc, not-suc-le-zero}
 use native.Mathlib.Omega.{arith}
 use lib.Bits.{bitXor, xor-comm, xor-zero-r}
 use lib.ListN.{length, getD, set, replicate}
-use Rattle.paper.specs.Strings.{zip, _⊕_, tabFrom, tab}
-use Rattle.laws.proofs.Tables.{tab-entries}
+use Rattle.paper.specs.Strings.{zip, _⊕_}
 use Rattle.laws.proofs.Xor.{xor-assoc, xor-cancel}
 
 pub ⊕-comm : (X Y : List ℕ) → X ⊕ Y ≡ Y ⊕ X
@@ -48,11 +47,10 @@ unfolding _⊕_ zip
 ⊕-last zero n (x ∷ y ∷ X) e = absurd (omega arith)
 ⊕-last (suc k) n (x ∷ X) e = ap₂ (λ (a : ℕ) (l : List ℕ). a ∷ l) (xor-zero-r x) (⊕-last k n X (omega arith))
 
-zipped : (i n : ℕ) (f g : ℕ → ℕ) → tabFrom i n f ⊕ tabFrom i n g ≡ tabFrom i n (λ k. bitXor (f k) (g k))
+-- an entry of an xor
+pub getD-⊕ : (X Y : List ℕ) (i : ℕ) → i < length X → i < length Y → getD (X ⊕ Y) i 0 ≡ bitXor (getD X i 0) (getD Y i 0)
 unfolding _⊕_ zip
-zipped i zero f g = refl
-zipped i (suc n) f g = ap (λ (l : List ℕ). bitXor (f i) (g i) ∷ l) (zipped (suc i) n f g)
-
--- the xor of two strings of n entries, as a table: how code that names each entry states it
-pub ⊕-tab : (n : ℕ) (X Y : List ℕ) → length X ≡ n → length Y ≡ n → X ⊕ Y ≡ tab n (λ i. bitXor (getD X i 0) (getD Y i 0))
-⊕-tab n X Y p q = ap₂ _⊕_ (tab-entries n X p) (tab-entries n Y q) ∙ zipped 0 n (λ i. getD X i 0) (λ i. getD Y i 0)
+getD-⊕ [] Y i h g = absurd (not-suc-le-zero h)
+getD-⊕ (x ∷ X) [] i h g = absurd (not-suc-le-zero g)
+getD-⊕ (x ∷ X) (y ∷ Y) zero h g = refl
+getD-⊕ (x ∷ X) (y ∷ Y) (suc i) h g = getD-⊕ X Y i (le-of-suc-le-suc h) (le-of-suc-le-suc g)

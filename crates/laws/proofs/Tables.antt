@@ -1,8 +1,8 @@
--- Tabulated lists: a list is the table of its entries, and a map goes over a table.
+-- Lists by their entries: a list is the table of them, and a map replaces each.
 use mathlib.Core.List.{List, [], _∷_, map}
 use mathlib.Core.Path.{_≡_, refl, ap, ap₂, sym, subst, _∙_}
-use Prim.Native.Nat.{ℕ, zero, suc, _+_}
-use native.Mathlib.Nat.{add-zero, zero-add, add-suc, suc-add}
+use Prim.Native.Nat.{ℕ, zero, suc, _+_, _<_}
+use native.Mathlib.Nat.{add-zero, zero-add, add-suc, suc-add, le-of-suc-le-suc, not-suc-le-zero}
 use lib.ListN.{length, getD}
 use Rattle.paper.specs.Strings.{tabFrom, tab}
 
@@ -18,6 +18,8 @@ tab-entries n l e =
     subst (λ (m : ℕ). l ≡ tab m (λ i. getD l i 0)) e
     (entries 0 (λ i. getD l i 0) l (λ k. ap (λ (j : ℕ). getD l j 0) (zero-add k)))
 
-pub map-tabFrom : (g f : ℕ → ℕ) (i n : ℕ) → map g (tabFrom i n f) ≡ tabFrom i n (λ k. g (f k))
-map-tabFrom g f i zero = refl
-map-tabFrom g f i (suc n) = ap (λ (l : List ℕ). g (f i) ∷ l) (map-tabFrom g f (suc i) n)
+-- an entry of a map
+pub getD-map : (f : ℕ → ℕ) (l : List ℕ) (i : ℕ) → i < length l → getD (map f l) i 0 ≡ f (getD l i 0)
+getD-map f [] i h = absurd (not-suc-le-zero h)
+getD-map f (x ∷ l) zero h = refl
+getD-map f (x ∷ l) (suc i) h = getD-map f l i (le-of-suc-le-suc h)

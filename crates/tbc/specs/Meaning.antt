@@ -1,5 +1,5 @@
 -- What the structs of `tbc` stand for in Figure 6.
-use mathlib.Core.Bool.{false}
+use mathlib.Core.Bool.{Bool, false}
 use mathlib.Core.Path.{_≡_}
 use Prim.Native.Nat.{ℕ, _-_, _/_, _≤_}
 use Rattle.paper.specs.Strings.{Bytes, if_then_else_}
@@ -13,13 +13,17 @@ use Rattle.tbc.specs.declared.Pair.{Pair}
 abbrev pub blocks : Key → figure6.Key
 blocks k = record { I = k .i; J = k .j; L = k .l }
 
+-- a pair of indices, (-1, second) being minus with 1
+abbrev pub pair : Bool → ℕ → ℕ → Pair
+pair minus first second = record { 0 = minus; 1 = first; 2 = second }
+
 -- the first index of a pair
 abbrev pub rowOf : Pair → Row
-rowOf p = if p .minus then minus1 else row (p .first)
+rowOf p = if p .0 then minus1 else row (p .1)
 
 -- the pair whose second index counts up from 1 in a row from 1 on, and the power of L that goes with it
 pub record Running (k : Key) (p : Pair) (power : Bytes) : Type 0 where
-  pub plus : p .minus ≡ false
-  pub counted : 1 ≤ p .first
-  pub from1 : 1 ≤ p .second
-  pub carried : power ≡ twoTo ((p .second - 1) / 8) (k .l)
+  pub plus : p .0 ≡ false
+  pub counted : 1 ≤ p .1
+  pub from1 : 1 ≤ p .2
+  pub carried : power ≡ twoTo ((p .2 - 1) / 8) (k .l)

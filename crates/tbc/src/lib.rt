@@ -6,7 +6,7 @@ ghost use lib.ListN.{length};
 ghost use Rattle.paper.specs.Strings.{_⊕_};
 ghost use Rattle.paper.specs.Section7.{_·_, AES4};
 ghost use Rattle.paper.specs.Figure6.{keyOf, k0, k1, k2, K10, Defined, E};
-ghost use Rattle.tbc.specs.Meaning.{blocks, rowOf, Running};
+ghost use Rattle.tbc.specs.Meaning.{blocks, pair, rowOf, Running};
 
 // The key: the blocks I, J and L.
 pub struct Key {
@@ -26,133 +26,57 @@ pub fn key_of(s: &[u8]) -> Key
     Key { i, j, l }
 }
 
-// A pair of indices, (first, second); (-1, second) is minus with 1.
-pub struct Pair {
-    pub minus: bool,
-    pub first: u32,
-    pub second: u32,
-}
+// A pair of indices: whether the first is -1, the first (1 where it is -1), and the second.
+pub struct Pair(pub bool, pub u32, pub u32);
 
 // 01's table of index pairs, a row for each named use. Where the second index counts, the row has 0 for it, and `at` puts it in; the
 // hash's row has 2 for the first index, to which `string` adds the string's number.
 impl Pair {
-    pub const A: Pair = Pair {
-        minus: false,
-        first: 0,
-        second: 0,
-    };
+    pub const A: Pair = Pair(false, 0, 0);
 
-    pub const A_I: Pair = Pair {
-        minus: false,
-        first: 1,
-        second: 0,
-    };
+    pub const A_I: Pair = Pair(false, 1, 0);
 
-    pub const AA_I: Pair = Pair {
-        minus: false,
-        first: 2,
-        second: 0,
-    };
+    pub const AA_I: Pair = Pair(false, 2, 0);
 
-    pub const X: Pair = Pair {
-        minus: false,
-        first: 0,
-        second: 1,
-    };
+    pub const X: Pair = Pair(false, 0, 1);
 
-    pub const Y: Pair = Pair {
-        minus: false,
-        first: 0,
-        second: 2,
-    };
+    pub const Y: Pair = Pair(false, 0, 2);
 
-    pub const XX: Pair = Pair {
-        minus: true,
-        first: 1,
-        second: 1,
-    };
+    pub const XX: Pair = Pair(true, 1, 1);
 
-    pub const YY: Pair = Pair {
-        minus: true,
-        first: 1,
-        second: 2,
-    };
+    pub const YY: Pair = Pair(true, 1, 2);
 
-    pub const U: Pair = Pair {
-        minus: false,
-        first: 0,
-        second: 4,
-    };
+    pub const U: Pair = Pair(false, 0, 4);
 
-    pub const V: Pair = Pair {
-        minus: false,
-        first: 0,
-        second: 5,
-    };
+    pub const V: Pair = Pair(false, 0, 5);
 
-    pub const UU: Pair = Pair {
-        minus: true,
-        first: 1,
-        second: 4,
-    };
+    pub const UU: Pair = Pair(true, 1, 4);
 
-    pub const VV: Pair = Pair {
-        minus: true,
-        first: 1,
-        second: 5,
-    };
+    pub const VV: Pair = Pair(true, 1, 5);
 
-    pub const TINY: Pair = Pair {
-        minus: false,
-        first: 0,
-        second: 6,
-    };
+    pub const TINY: Pair = Pair(false, 0, 6);
 
-    pub const TINY_SHORT: Pair = Pair {
-        minus: false,
-        first: 0,
-        second: 7,
-    };
+    pub const TINY_SHORT: Pair = Pair(false, 0, 7);
 
-    pub const TINY_LAST: Pair = Pair {
-        minus: false,
-        first: 0,
-        second: 3,
-    };
+    pub const TINY_LAST: Pair = Pair(false, 0, 3);
 
-    pub const PRF: Pair = Pair {
-        minus: true,
-        first: 1,
-        second: 3,
-    };
+    pub const PRF: Pair = Pair(true, 1, 3);
 
-    pub const HASH: Pair = Pair {
-        minus: false,
-        first: 2,
-        second: 0,
-    };
+    pub const HASH: Pair = Pair(false, 2, 0);
 
     // The pair of the same row whose second index is i.
     pub fn at(self, i: u32) -> Pair
-        ensures { λ r. ⌜ r ≡ record { minus = self .minus; first = self .first; second = i } ⌝ }
+        ensures { λ r. ⌜ r ≡ pair (self .0) (self .1) i ⌝ }
     {
-        Pair {
-            minus: self.minus,
-            first: self.first,
-            second: i,
-        }
+        Pair(self.0, self.1, i)
     }
 
-    // The pair of the row that is s rows on.
+    // The pair that is s rows on.
     pub fn string(self, s: u32) -> Pair
-        requires { ⌜ self .first + s < 4294967296 ⌝ }
-        ensures { λ r. ⌜ r ≡ record { minus = self .minus; first = self .first + s; second = self .second } ⌝ }
+        requires { ⌜ self .1 + s < 4294967296 ⌝ }
+        ensures { λ r. ⌜ r ≡ pair (self .0) (self .1 + s) (self .2) ⌝ }
     {
-        Pair {
-            minus: self.minus,
-            first: self.first + s,
-            second: self.second,
-        }
+        Pair(self.0, self.1 + s, self.2)
     }
 }
 
@@ -216,14 +140,15 @@ fn row_number(row: u32) -> u64
     ((row - 2) as u64) * 8
 }
 
-// E for a pair whose second index counts up: lines 406 and 408. power is 2^floor((second - 1) / 8)·L, which a loop carries along.
+// E for a pair whose second index counts up: lines 406 and 408. power is 2^floor((b - 1) / 8)·L for the second index b, which a loop
+// carries along.
 pub fn e_running(k: Key, p: Pair, power: [u8; 16], x: [u8; 16]) -> [u8; 16]
     requires { ⌜ Running k p power ⌝ }
-    ensures { λ r. ⌜ r ≡ E (blocks k) (rowOf p) (p .second) x ⌝ }
+    ensures { λ r. ⌜ r ≡ E (blocks k) (rowOf p) (p .2) x ⌝ }
 {
-    let row = p.first;
+    let row = p.1;
     let j = k.j;
-    let low = block::times((p.second % 8) as u64, j);
+    let low = block::times((p.2 % 8) as u64, j);
     let y = block::xor(x, low);
     let masked = block::xor(y, power);
     if row == 1 {
@@ -239,12 +164,12 @@ pub fn e_running(k: Key, p: Pair, power: [u8; 16], x: [u8; 16]) -> [u8; 16]
 
 // E for any pair that Figure 6 defines.
 pub fn e(k: Key, p: Pair, x: [u8; 16]) -> [u8; 16]
-    requires { ⌜ Defined (rowOf p) (p .second) ⌝ }
-    ensures { λ r. ⌜ r ≡ E (blocks k) (rowOf p) (p .second) x ⌝ }
+    requires { ⌜ Defined (rowOf p) (p .2) ⌝ }
+    ensures { λ r. ⌜ r ≡ E (blocks k) (rowOf p) (p .2) x ⌝ }
 {
-    let row = p.first;
-    let number = p.second;
-    if p.minus {
+    let row = p.1;
+    let number = p.2;
+    if p.0 {
         let j = k.j;
         let mask = block::times(number as u64, j);
         let y = block::xor(x, mask);

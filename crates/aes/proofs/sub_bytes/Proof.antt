@@ -1,22 +1,27 @@
 -- `aes::sub_bytes` meets its contract. The invariant: the first i bytes are replaced.
-use mathlib.Core.Path.{_≡_, refl, ap, _∙_}
-use Prim.Native.Nat.{ℕ, _-_, _≤_}
+use mathlib.Core.List.{map}
+use mathlib.Core.Path.{_≡_, refl, sym, _∙_}
+use Prim.Native.Nat.{_-_, _≤_}
 use native.Mathlib.Omega.{arith}
 use borrow.Author.Needs.{needs}
-use lib.ListN.{length}
+use lib.ListN.{length, getD, length-map}
 use Rattle.paper.specs.Fips197.{sbox, SubBytes}
-use Rattle.aes.proofs.MapLoop.{mapped, turn, all}
+use Rattle.laws.proofs.Fronts.{Front, front-more, front-all}
+use Rattle.laws.proofs.Tables.{getD-map}
 use Rattle.aes.proofs.sub_bytes.Statement.{statement}
 use Rattle.aes.proofs.sub_bytes.Tie as tie
 
 abbrev Inv-loop : tie.InvT-loop
-Inv-loop t r₀ i₀ r i = (i ≤ 16) × (r ≡ mapped sbox i r₀)
+Inv-loop t x r₀ i₀ r i = (i ≤ 16) × Front (map sbox x) r i
 
 abbrev μ-loop : tie.MeasureT-loop
-μ-loop t r₀ i₀ r i = 16 - i
+μ-loop t x r₀ i₀ r i = 16 - i
 
 loop-holds : tie.Need-loop-holds Inv-loop μ-loop
-loop-holds c = (omega arith, refl)
+loop-holds c =
+    let x = c .args .t2 in
+    let long : length x ≡ 16 = search needs in
+    (omega arith, record { long = sym (length-map x sbox ∙ long); same = refl })
 
 array-read-sub : tie.Need-array-read-sub Inv-loop μ-loop
 array-read-sub c = search needs
@@ -36,17 +41,19 @@ loop-less c = search needs
 loop-again : tie.Need-loop-again Inv-loop μ-loop
 loop-again c =
     let l = c .before .before .loop in
-    let x = c .before .before .before .args .x in
-    let long : length x ≡ 16 = search needs in
-    (omega arith, turn sbox (l .i) (c .sub .result) x (l .r) (omega arith) (l .inv .1) (c .sub .ensures))
+    let x = c .before .before .before .args .t2 in
+    let long : length x ≡ 16 = search needs in (
+      omega arith,
+      front-more _ (l .inv .1) (omega (arith, length-map x sbox)) (c .sub .ensures ∙ sym (getD-map sbox x (l .i) (omega arith))),
+    )
 
 returns : tie.Need-returns Inv-loop μ-loop
 unfolding SubBytes
 returns c =
     let l = c .before .loop in
-    let x = c .before .before .args .x in
-    let done : l .i ≡ 16 = omega arith in
-    l .inv .1 ∙ ap (λ (m : ℕ). mapped sbox m x) done ∙ all sbox 16 x (search needs)
+    let x = c .before .before .args .t2 in
+    let long : length x ≡ 16 = search needs in
+    front-all (l .inv .1) (length-map x sbox ∙ omega arith)
 
 pub sub-bytes-spec : {M : Type 1} → statement M
 sub-bytes-spec =

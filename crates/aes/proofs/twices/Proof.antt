@@ -1,22 +1,27 @@
 -- `aes::twices` meets its contract. The invariant: the first i bytes are replaced.
-use mathlib.Core.Path.{_≡_, refl, ap, _∙_}
-use Prim.Native.Nat.{ℕ, _-_, _≤_}
+use mathlib.Core.List.{map}
+use mathlib.Core.Path.{_≡_, refl, sym, _∙_}
+use Prim.Native.Nat.{_-_, _≤_}
 use native.Mathlib.Omega.{arith}
 use borrow.Author.Needs.{needs}
-use lib.ListN.{length}
+use lib.ListN.{length, getD, length-map}
 use Rattle.paper.specs.Fips197.{xtime}
-use Rattle.aes.proofs.MapLoop.{mapped, turn, all}
+use Rattle.laws.proofs.Fronts.{Front, front-more, front-all}
+use Rattle.laws.proofs.Tables.{getD-map}
 use Rattle.aes.proofs.twices.Statement.{statement}
 use Rattle.aes.proofs.twices.Tie as tie
 
 abbrev Inv-loop : tie.InvT-loop
-Inv-loop r₀ i₀ r i = (i ≤ 16) × (r ≡ mapped xtime i r₀)
+Inv-loop x r₀ i₀ r i = (i ≤ 16) × Front (map xtime x) r i
 
 abbrev μ-loop : tie.MeasureT-loop
-μ-loop r₀ i₀ r i = 16 - i
+μ-loop x r₀ i₀ r i = 16 - i
 
 loop-holds : tie.Need-loop-holds Inv-loop μ-loop
-loop-holds c = (omega arith, refl)
+loop-holds c =
+    let x = c .args .t1 in
+    let long : length x ≡ 16 = search needs in
+    (omega arith, record { long = sym (length-map x xtime ∙ long); same = refl })
 
 array-read-twice : tie.Need-array-read-twice Inv-loop μ-loop
 array-read-twice c = search needs
@@ -36,16 +41,18 @@ loop-less c = search needs
 loop-again : tie.Need-loop-again Inv-loop μ-loop
 loop-again c =
     let l = c .before .before .loop in
-    let x = c .before .before .before .args .x in
-    let long : length x ≡ 16 = search needs in
-    (omega arith, turn xtime (l .i) (c .twice .result) x (l .r) (omega arith) (l .inv .1) (c .twice .ensures))
+    let x = c .before .before .before .args .t1 in
+    let long : length x ≡ 16 = search needs in (
+      omega arith,
+      front-more _ (l .inv .1) (omega (arith, length-map x xtime)) (c .twice .ensures ∙ sym (getD-map xtime x (l .i) (omega arith))),
+    )
 
 returns : tie.Need-returns Inv-loop μ-loop
 returns c =
     let l = c .before .loop in
-    let x = c .before .before .args .x in
-    let done : l .i ≡ 16 = omega arith in
-    l .inv .1 ∙ ap (λ (m : ℕ). mapped xtime m x) done ∙ all xtime 16 x (search needs)
+    let x = c .before .before .args .t1 in
+    let long : length x ≡ 16 = search needs in
+    front-all (l .inv .1) (length-map x xtime ∙ omega arith)
 
 pub twices-spec : {M : Type 1} → statement M
 twices-spec =

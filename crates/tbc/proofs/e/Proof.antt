@@ -32,7 +32,7 @@ returns c =
     let m = c .before .before .xor .ensures ∙ ap (λ (l : Bytes). a .x ⊕ l) (c .before .before .before .times .ensures) in
     c .aes10 .ensures
     ∙ ap₂ AES (c .before .keys10 .ensures) m
-    ∙ sym (ap (λ (r : Row). E (blocks (a .k)) r (a .p .second) (a .x)) (row-minus (a .p) (c .before .before .before .before .before .if1 .taken)) ∙ E-404 (blocks (a .k)) (a .x) (a .p .second))
+    ∙ sym (ap (λ (r : Row). E (blocks (a .k)) r (a .p .2) (a .x)) (row-minus (a .p) (c .before .before .before .before .before .if1 .taken)) ∙ E-404 (blocks (a .k)) (a .x) (a .p .2))
 
 cast-under-multiple : tie.Need-cast-under-multiple
 cast-under-multiple c = search needs
@@ -44,7 +44,7 @@ returns-2 : tie.Need-returns-2
 returns-2 c =
     let a = c .before .before .before .args in
     c .under-multiple .ensures
-    ∙ sym (ap (λ (r : Row). E (blocks (a .k)) r (a .p .second) (a .x)) (row-of (a .p) 0 (c .before .before .if1 .left) (c .before .if2 .taken)) ∙ E-405 (blocks (a .k)) (a .x) (a .p .second))
+    ∙ sym (ap (λ (r : Row). E (blocks (a .k)) r (a .p .2) (a .x)) (row-of (a .p) 0 (c .before .before .if1 .left) (c .before .if2 .taken)) ∙ E-405 (blocks (a .k)) (a .x) (a .p .2))
 
 row-number-requires : tie.Need-row-number-requires
 row-number-requires c κs =
@@ -61,7 +61,7 @@ returns-3 c =
     let high = from3 (a .p) (c .before .before .before .before .before .pre) (c .before .before .before .before .if1 .left) (c .before .before .before .if2 .left) none in
     c .under-multiple2 .ensures
     ∙ ap (λ (n : ℕ). AES (k0 (blocks (a .k))) (a .x ⊕ n · a .k .j)) (c .before .row-number .ensures)
-    ∙ sym (ap₂ (λ (r : Row) (j : ℕ). E (blocks (a .k)) r j (a .x)) (row-of (a .p) (a .p .first) (c .before .before .before .before .if1 .left) refl) none ∙ E-409 (blocks (a .k)) (a .x) (a .p .first) high)
+    ∙ sym (ap₂ (λ (r : Row) (j : ℕ). E (blocks (a .k)) r j (a .x)) (row-of (a .p) (a .p .1) (c .before .before .before .before .if1 .left) refl) none ∙ E-409 (blocks (a .k)) (a .x) (a .p .1) high)
 
 sub-two-to : tie.Need-sub-two-to
 sub-two-to c = search needs

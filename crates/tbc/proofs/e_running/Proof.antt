@@ -37,7 +37,7 @@ returns c =
     let m = mask (a .k) (a .p) (a .power) (a .x) _ _ _ h (c .before .before .before .before .before .times .ensures) (c .before .before .before .before .xor .ensures) (c .before .before .before .xor2 .ensures) in
     c .aes4 .ensures
     ∙ ap₂ AES (c .before .keys1 .ensures) m
-    ∙ sym (ap (λ (r : Row). E (blocks (a .k)) r (a .p .second) (a .x)) (row-of (a .p) 1 (h .plus) (c .before .before .if1 .taken)) ∙ E-406-1 (blocks (a .k)) (a .x) (a .p .second))
+    ∙ sym (ap (λ (r : Row). E (blocks (a .k)) r (a .p .2) (a .x)) (row-of (a .p) 1 (h .plus) (c .before .before .if1 .taken)) ∙ E-406-1 (blocks (a .k)) (a .x) (a .p .2))
 
 keys2-requires : tie.Need-keys2-requires
 keys2-requires c κs = search needs
@@ -52,7 +52,7 @@ returns-2 c =
     let m = mask (a .k) (a .p) (a .power) (a .x) _ _ _ h (c .before .before .before .before .before .before .times .ensures) (c .before .before .before .before .before .xor .ensures) (c .before .before .before .before .xor2 .ensures) in
     c .aes42 .ensures
     ∙ ap₂ AES (c .before .keys2 .ensures) m
-    ∙ sym (ap (λ (r : Row). E (blocks (a .k)) r (a .p .second) (a .x)) (row-of (a .p) 2 (h .plus) (c .before .before .if2 .taken)) ∙ E-406-2 (blocks (a .k)) (a .x) (a .p .second))
+    ∙ sym (ap (λ (r : Row). E (blocks (a .k)) r (a .p .2) (a .x)) (row-of (a .p) 2 (h .plus) (c .before .before .if2 .taken)) ∙ E-406-2 (blocks (a .k)) (a .x) (a .p .2))
 
 row-number-requires : tie.Need-row-number-requires
 row-number-requires c κs = search needs
@@ -65,10 +65,10 @@ returns-3 c =
     let a = c .before .before .before .before .before .before .before .before .before .args in
     let h : Running (a .k) (a .p) (a .power) = c .before .before .before .before .before .before .before .before .before .pre in
     let m = mask (a .k) (a .p) (a .power) (a .x) _ _ _ h (c .before .before .before .before .before .before .times .ensures) (c .before .before .before .before .before .xor .ensures) (c .before .before .before .before .xor2 .ensures) in
-    let high : 3 ≤ a .p .first = omega (arith, h .counted) in
+    let high : 3 ≤ a .p .1 = omega (arith, h .counted) in
     c .under-multiple .ensures
     ∙ ap₂ (λ (Y : Bytes) (n : ℕ). AES (k0 (blocks (a .k))) (Y ⊕ n · a .k .j)) m (c .before .row-number .ensures)
-    ∙ sym (ap (λ (r : Row). E (blocks (a .k)) r (a .p .second) (a .x)) (row-of (a .p) (a .p .first) (h .plus) refl) ∙ E-408 (blocks (a .k)) (a .x) (a .p .first) (a .p .second) high (h .from1))
+    ∙ sym (ap (λ (r : Row). E (blocks (a .k)) r (a .p .2) (a .x)) (row-of (a .p) (a .p .1) (h .plus) refl) ∙ E-408 (blocks (a .k)) (a .x) (a .p .1) (a .p .2) high (h .from1))
 
 pub e-running-spec : {M : Type 1} → statement M
 e-running-spec =

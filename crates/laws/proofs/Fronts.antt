@@ -1,0 +1,30 @@
+-- A loop that fills a list r from the front, one store a turn: after i turns its first i entries are those of the list l that is wanted.
+use mathlib.Core.List.{List, [], _∷_, _++_}
+use mathlib.Core.Path.{_≡_, ap, ap₂, sym, _∙_}
+use Prim.Native.Nat.{ℕ, _+_, _<_}
+use native.Mathlib.Numerals.{add-one}
+use native.Mathlib.Omega.{arith}
+use lib.ListN.{length, take, getD, set, length-set}
+use lib.Seq.{take-suc, take-suc-set, take-all}
+
+-- r has as many entries as l, and its first i are l's
+pub record Front (l r : List ℕ) (i : ℕ) : Type 0 where
+  pub long : length r ≡ length l
+  pub same : take i r ≡ take i l
+
+-- a turn: v is l's entry at i
+pub front-more : {l r : List ℕ} {i : ℕ} (v : ℕ) → Front l r i → i < length l → v ≡ getD l i 0 → Front l (set r i v) (i + 1)
+front-more {l} {r} {i} v f h e =
+    record {
+      long = length-set r i v ∙ f .long;
+      same =
+          ap (λ (n : ℕ). take n (set r i v)) (add-one i)
+          ∙ take-suc-set r i v (omega (arith, f .long))
+          ∙ ap₂ (λ (t : List ℕ) (w : ℕ). t ++ w ∷ []) (f .same) e
+          ∙ sym (take-suc l i 0 h)
+          ∙ ap (λ (n : ℕ). take n l) (sym (add-one i));
+    }
+
+-- after the last turn
+pub front-all : {l r : List ℕ} {i : ℕ} → Front l r i → length l ≡ i → r ≡ l
+front-all {l} {r} {i} f e = sym (take-all i r (omega (arith, f .long))) ∙ f .same ∙ take-all i l (omega arith)
