@@ -1,4 +1,5 @@
--- FIPS 197: the field, the S-box by its rule, and the three steps of a round.
+-- FIPS 197, with the sections of the edition of 2001: the field, the S-box by its rule, and three of the four steps of a round. The
+-- fourth, AddRoundKey, is the xor of strings.
 -- A byte is the number below 256 whose bit i is the coefficient of x^i. The sum of two bytes is their exclusive or (4.1).
 use mathlib.Core.List.{List, [], _∷_, _++_, map}
 use Prim.Native.Nat.{ℕ, zero, suc, _+_, _*_, _/_, _%_, _^_}
@@ -26,7 +27,8 @@ mulBits (suc n) a b =
 unfoldable pub _•_ : ℕ → ℕ → ℕ
 a • b = mulBits 8 a b
 
--- 4.4: the inverse is the power 254, and 0 for 0. As 254 = 2 + 4 + .. + 128, it is the product of seven squares, each of the one before
+-- 4.2: the inverse, and 0 for 0. The field has 255 units, so it is the power 254 = 2 + 4 + .. + 128: the product of seven squares, each
+-- of the one before
 unfoldable pub squares : ℕ → ℕ → ℕ
 squares zero b = 1
 squares (suc n) b = let c = b • b in c • squares n c
