@@ -9,3 +9,13 @@ pub mod Multiples
 pub mod Padding
 pub mod Round
 pub mod BlockFunction
+pub mod Joins
+pub mod Headers
+pub mod TwelveFacts
+pub mod CoreParts
+pub mod BitBytes
+pub mod Feistel
+pub mod Tiny
+pub mod CoreBlocks
+pub mod CoreResult
+pub mod CoreInverse

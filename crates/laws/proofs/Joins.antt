@@ -1,0 +1,64 @@
+-- Sums and joins of strings that are counted from 1.
+use mathlib.Core.List.{List, [], _∷_, _++_, append-assoc}
+use mathlib.Core.Path.{_≡_, refl, ap, ap₂, sym, subst, _∙_}
+use Prim.Native.Nat.{ℕ, zero, suc, _+_, _-_, _*_, _≤_}
+use native.Mathlib.Decide.{decLe}
+use native.Mathlib.Omega.{arith}
+use lib.ListN.{length, take, drop}
+use lib.Seq.{take-at, drop-at}
+use Rattle.paper.specs.Strings.{Bytes, Digits, Block, _⊕_, sum, join}
+use Rattle.laws.proofs.Digits.{⊕-digits, append-digits, zero-digits, as-digits}
+
+-- P holds of each number from 1 to m
+abbrev pub UpTo : ℕ → (ℕ → Type 0) → Type 0
+UpTo m P = (i : ℕ) → 1 ≤ i → i ≤ m → P i
+
+fewer : (m : ℕ) (P : ℕ → Type 0) → UpTo (suc m) P → UpTo m P
+fewer m P h i a b = h i a (omega arith)
+
+last : (m : ℕ) (P : ℕ → Type 0) → UpTo (suc m) P → P (suc m)
+last m P h = h (suc m) (omega arith) (omega arith)
+
+pub sum-ext : (m : ℕ) (f g : ℕ → Bytes) → UpTo m (λ i. f i ≡ g i) → sum m f ≡ sum m g
+unfolding sum
+sum-ext zero f g h = refl
+sum-ext (suc m) f g h = ap₂ _⊕_ (sum-ext m f g (fewer m (λ i. f i ≡ g i) h)) (last m (λ i. f i ≡ g i) h)
+
+pub sum-block : (m : ℕ) (f : ℕ → Bytes) → UpTo m (λ i. Block (f i)) → Block (sum m f)
+unfolding sum
+sum-block zero f h = zero-digits 8 16
+sum-block (suc m) f h = ⊕-digits (sum-block m f (fewer m (λ i. Block (f i)) h)) (last m (λ i. Block (f i)) h) (omega arith)
+
+pub join-ext : (m : ℕ) (f g : ℕ → Bytes) → UpTo m (λ i. f i ≡ g i) → join m f ≡ join m g
+unfolding join
+join-ext zero f g h = refl
+join-ext (suc m) f g h = ap₂ _++_ (join-ext m f g (fewer m (λ i. f i ≡ g i) h)) (last m (λ i. f i ≡ g i) h)
+
+-- pairs of blocks joined
+pub join-digits : (m : ℕ) (f : ℕ → Bytes) → UpTo m (λ i. Digits 8 32 (f i)) → Digits 8 (32 * m) (join m f)
+unfolding join
+join-digits zero f h = zero-digits 8 0
+join-digits (suc m) f h =
+    as-digits (omega arith) (append-digits (join-digits m f (fewer m (λ i. Digits 8 32 (f i)) h)) (last m (λ i. Digits 8 32 (f i)) h))
+
+-- the i-th of them
+pub join-at : (m i : ℕ) (f : ℕ → Bytes) (R : Bytes) → UpTo m (λ i. Digits 8 32 (f i)) → 1 ≤ i → i ≤ m
+    → take 32 (drop (32 * (i - 1)) (join m f ++ R)) ≡ f i
+unfolding join
+join-at zero i f R h a b = absurd (omega arith)
+join-at (suc m) i f R h a b = go (decLe i m) (λ c. join-at m i f (f (suc m) ++ R) before a c)
+  where
+    before : UpTo m (λ i. Digits 8 32 (f i))
+    before = fewer m (λ i. Digits 8 32 (f i)) h
+
+    go : Dec (i ≤ m) → (i ≤ m → take 32 (drop (32 * (i - 1)) (join m f ++ (f (suc m) ++ R))) ≡ f i)
+        → take 32 (drop (32 * (i - 1)) ((join m f ++ f (suc m)) ++ R)) ≡ f i
+    go (yes c) ih = ap (λ (l : Bytes). take 32 (drop (32 * (i - 1)) l)) (append-assoc (join m f) (f (suc m)) R) ∙ ih c
+    go (no c) ih =
+        let e : suc m ≡ i = omega (arith, c) in
+        let at : 32 * m ≡ 32 * (i - 1) = omega arith in
+        let long : length (join m f) ≡ 32 * (i - 1) = join-digits m f before .len ∙ at in
+        ap (λ (l : Bytes). take 32 (drop (32 * (i - 1)) l)) (append-assoc (join m f) (f (suc m)) R)
+        ∙ ap (take 32) (drop-at (join m f) (f (suc m) ++ R) (32 * (i - 1)) long)
+        ∙ take-at (f (suc m)) R 32 (last m (λ i. Digits 8 32 (f i)) h .len)
+        ∙ ap f e
