@@ -1,5 +1,5 @@
 // The AES round of FIPS 197, and AES4 and AES10 of the AEZ paper's section 7. The last round keeps its MixColumns.
-ghost use mathlib.Core.List.{List, [], _∷_, map};
+ghost use mathlib.Core.List.{map};
 ghost use mathlib.Core.Path.{_≡_};
 ghost use Prim.Native.Nat.{_+_, _%_};
 ghost use Rattle.paper.specs.Strings.{tab};

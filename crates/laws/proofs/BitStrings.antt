@@ -5,7 +5,7 @@ use Prim.Native.Nat.{ℕ, zero, suc, _+_, _*_, _/_, _%_, _^_, _<_}
 use native.Mathlib.Nat.{pow-zero, pow-suc, pow-succ', div-one, div-div-eq-div-mul, zero-lt-suc, mod-lt, mod-eq-of-lt, div-eq-of-lt, mul-assoc}
 use native.Mathlib.Omega.{arith}
 use lib.Arith.{mod-mul, digits-div, digits-mod}
-use lib.ListN.{length, take, drop, replicate, length-append}
+use lib.ListN.{length, replicate, length-append}
 use lib.Pow.{pow-pos}
 use lib.Seq.{take-at, drop-at}
 use Rattle.paper.specs.Strings.{Below, digits, number, bits, valueFrom, bytesOf, bytes}

@@ -1,29 +1,24 @@
 -- AEZ-core keeps lengths and bytes: each of its values is a block, the u and v parts keep their lengths, and the result has these parts.
 use mathlib.Core.Bool.{Bool, true, false}
-use mathlib.Core.List.{List, [], _∷_, _++_, append-assoc}
-use mathlib.Core.Path.{_≡_, refl, ap, ap₂, sym, subst⁻¹, _∙_}
-use Prim.Native.Nat.{ℕ, zero, suc, _+_, _-_, _*_, _≤_, _<_}
+use mathlib.Core.List.{[], _++_}
+use mathlib.Core.Path.{_≡_, refl, ap, sym, subst⁻¹}
+use Prim.Native.Nat.{ℕ, _-_, _≤_, _<_}
 use native.Mathlib.Omega.{arith}
-use borrow.Author.Tests.{eqb-true, eqb-false, leb-true, leb-false}
+use borrow.Author.Tests.{eqb-true, leb-true, leb-false}
 use lib.Dec.{eqb, leb}
-use lib.ListN.{length, take, drop, replicate}
-use lib.Seq.{take-at, drop-at, take-take, drop-drop}
-use Rattle.paper.specs.Strings.{Bytes, Below, Digits, Block, if_then_else_, _⊕_, pad10*, sum, join}
+use lib.ListN.{length}
+use Rattle.paper.specs.Strings.{Bytes, Digits, Block, if_then_else_, _⊕_, pad10*, sum}
 use Rattle.paper.specs.Figure6.{Row, minus1, row, BlockFunction}
-use Rattle.paper.specs.Figure5.{pairs, rest, Mᵢ, M′ᵢ, Muv, Mx, My, Mu, Mv, Wᵢ, Xᵢ, X as Xall, Sx, Sy, S as Sall, S′ᵢ, Yᵢ, Zᵢ, C′ᵢ, Cᵢ, Cu, Cv, Y as Yall, Cy, Cx, core}
-use Rattle.laws.proofs.Digits.{⊕-digits, append-digits, zero-digits, as-digits}
-use Rattle.laws.proofs.Joins.{UpTo, sum-block, join-digits, join-at}
-use Rattle.laws.proofs.CoreParts.{cut, append-none, Mᵢ-block, M′ᵢ-block, Muv-bytes, Mx-block, My-block, Mu-bytes, Mv-bytes}
+use Rattle.paper.specs.Figure5.{pairs, rest, Mu, Mv, Wᵢ, Xᵢ, X as Xall, Sx, Sy, S as Sall, S′ᵢ, Yᵢ, Zᵢ, C′ᵢ, Cᵢ, Cu, Cv, Y as Yall, Cy, Cx}
+use Rattle.laws.proofs.Digits.{⊕-digits, ⊕-block, append-digits, zero-digits, as-digits}
+use Rattle.laws.proofs.Joins.{UpTo, sum-block}
+use Rattle.laws.proofs.CoreParts.{Mᵢ-block, M′ᵢ-block, Mx-block, My-block, Mu-bytes, Mv-bytes}
 use Rattle.laws.proofs.Padding.{pad-block}
 
 -- a sum, and what u and v add to it: lines 227 to 229 of X, 234 to 238 of Y
 abbrev pub uvAdded : BlockFunction → ℕ → Bytes → Bytes → Bytes → Bytes
 uvAdded E d s u v =
     if eqb d 0 then s else if leb d 15 then s ⊕ E (row 0) 4 (pad10* u) else s ⊕ E (row 0) 4 u ⊕ E (row 0) 5 (pad10* v)
-
--- the xor of two blocks
-pub both : {X Y : Bytes} → Block X → Block Y → Block (X ⊕ Y)
-both p q = ⊕-digits p q (omega arith)
 
 module _ (E : BlockFunction) (E-block : (r : Row) (j : ℕ) (X : Bytes) → Block X → Block (E r j X)) where
   -- u has d bytes or 16, v none or d - 16
@@ -33,8 +28,8 @@ module _ (E : BlockFunction) (E-block : (r : Row) (j : ℕ) (X : Bytes) → Bloc
     where
       go : (a b : Bool) → leb d 15 ≡ b → Block (if a then s else if b then s ⊕ E (row 0) 4 (pad10* u) else s ⊕ E (row 0) 4 u ⊕ E (row 0) 5 (pad10* v))
       go true b e = p
-      go false true e = both p (E-block (row 0) 4 (pad10* u) (pad-block (q true e) (omega (arith, leb-true d 15 e))))
-      go false false e = both (both p (E-block (row 0) 4 u (q false e))) (E-block (row 0) 5 (pad10* v) (pad-block (r false e) (omega arith)))
+      go false true e = ⊕-block p (E-block (row 0) 4 (pad10* u) (pad-block (q true e) (omega (arith, leb-true d 15 e))))
+      go false false e = ⊕-block (⊕-block p (E-block (row 0) 4 u (q false e))) (E-block (row 0) 5 (pad10* v) (pad-block (r false e) (omega arith)))
 
   module _ (Δ : Bytes) (Δ-block : Block Δ) (x y : ℕ) (M : Bytes) (long : 32 ≤ length M) (p : Digits 8 (length M) M) where
     abbrev m : ℕ
@@ -45,11 +40,11 @@ module _ (E : BlockFunction) (E-block : (r : Row) (j : ℕ) (X : Bytes) → Bloc
 
     pub Wᵢ-block : UpTo m (λ i. Block (Wᵢ E Δ x y M i))
     unfolding Wᵢ
-    Wᵢ-block i a b = both (Mᵢ-block E Δ x y M long p i a b) (E-block (row 1) i _ (M′ᵢ-block E Δ x y M long p i a b))
+    Wᵢ-block i a b = ⊕-block (Mᵢ-block E Δ x y M long p i a b) (E-block (row 1) i _ (M′ᵢ-block E Δ x y M long p i a b))
 
     pub Xᵢ-block : UpTo m (λ i. Block (Xᵢ E Δ x y M i))
     unfolding Xᵢ
-    Xᵢ-block i a b = both (M′ᵢ-block E Δ x y M long p i a b) (E-block (row 0) 0 _ (Wᵢ-block i a b))
+    Xᵢ-block i a b = ⊕-block (M′ᵢ-block E Δ x y M long p i a b) (E-block (row 0) 0 _ (Wᵢ-block i a b))
 
     pub X-added : Xall E Δ x y M ≡ uvAdded E d (sum m (Xᵢ E Δ x y M)) (Mu E Δ x y M) (Mv E Δ x y M)
     unfolding Xall
@@ -63,15 +58,15 @@ module _ (E : BlockFunction) (E-block : (r : Row) (j : ℕ) (X : Bytes) → Bloc
 
     pub Sx-block : Block (Sx E Δ x y M)
     unfolding Sx
-    Sx-block = both (both (both (Mx-block E Δ x y M long p) Δ-block) X-block) (E-block (row 0) x _ (My-block E Δ x y M long p))
+    Sx-block = ⊕-block (⊕-block (⊕-block (Mx-block E Δ x y M long p) Δ-block) X-block) (E-block (row 0) x _ (My-block E Δ x y M long p))
 
     pub Sy-block : Block (Sy E Δ x y M)
     unfolding Sy
-    Sy-block = both (My-block E Δ x y M long p) (E-block minus1 x _ Sx-block)
+    Sy-block = ⊕-block (My-block E Δ x y M long p) (E-block minus1 x _ Sx-block)
 
     pub S-block : Block (Sall E Δ x y M)
     unfolding Sall
-    S-block = both Sx-block Sy-block
+    S-block = ⊕-block Sx-block Sy-block
 
     pub S′ᵢ-block : (i : ℕ) → Block (S′ᵢ E Δ x y M i)
     unfolding S′ᵢ
@@ -79,19 +74,19 @@ module _ (E : BlockFunction) (E-block : (r : Row) (j : ℕ) (X : Bytes) → Bloc
 
     pub Yᵢ-block : UpTo m (λ i. Block (Yᵢ E Δ x y M i))
     unfolding Yᵢ
-    Yᵢ-block i a b = both (Wᵢ-block i a b) (S′ᵢ-block i)
+    Yᵢ-block i a b = ⊕-block (Wᵢ-block i a b) (S′ᵢ-block i)
 
     pub Zᵢ-block : UpTo m (λ i. Block (Zᵢ E Δ x y M i))
     unfolding Zᵢ
-    Zᵢ-block i a b = both (Xᵢ-block i a b) (S′ᵢ-block i)
+    Zᵢ-block i a b = ⊕-block (Xᵢ-block i a b) (S′ᵢ-block i)
 
     pub C′ᵢ-block : UpTo m (λ i. Block (C′ᵢ E Δ x y M i))
     unfolding C′ᵢ
-    C′ᵢ-block i a b = both (Yᵢ-block i a b) (E-block (row 0) 0 _ (Zᵢ-block i a b))
+    C′ᵢ-block i a b = ⊕-block (Yᵢ-block i a b) (E-block (row 0) 0 _ (Zᵢ-block i a b))
 
     pub Cᵢ-block : UpTo m (λ i. Block (Cᵢ E Δ x y M i))
     unfolding Cᵢ
-    Cᵢ-block i a b = both (Zᵢ-block i a b) (E-block (row 1) i _ (C′ᵢ-block i a b))
+    Cᵢ-block i a b = ⊕-block (Zᵢ-block i a b) (E-block (row 1) i _ (C′ᵢ-block i a b))
 
     -- u and v keep their lengths
     pub Cu-bytes : (b : Bool) → leb d 15 ≡ b → Digits 8 (if b then d else 16) (Cu E Δ x y M)
@@ -126,11 +121,11 @@ module _ (E : BlockFunction) (E-block : (r : Row) (j : ℕ) (X : Bytes) → Bloc
 
     pub Cy-block : Block (Cy E Δ x y M)
     unfolding Cy
-    Cy-block = both Sx-block (E-block minus1 y _ Sy-block)
+    Cy-block = ⊕-block Sx-block (E-block minus1 y _ Sy-block)
 
     pub Cx-block : Block (Cx E Δ x y M)
     unfolding Cx
-    Cx-block = both (both (both Sy-block Δ-block) Y-block) (E-block (row 0) y _ Cy-block)
+    Cx-block = ⊕-block (⊕-block (⊕-block Sy-block Δ-block) Y-block) (E-block (row 0) y _ Cy-block)
 
     pub pair-bytes : UpTo m (λ i. Digits 8 32 (Cᵢ E Δ x y M i ++ C′ᵢ E Δ x y M i))
     pair-bytes i a b = append-digits (Cᵢ-block i a b) (C′ᵢ-block i a b)

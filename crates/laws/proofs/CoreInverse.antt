@@ -1,20 +1,22 @@
 -- AEZ-core with x and y exchanged undoes AEZ-core, over any block function: deciphering undoes enciphering, and enciphering undoes
 -- deciphering. C is the result for the string M. On C, with x and y exchanged, each value of Figure 5 is another one on M.
 use mathlib.Core.Bool.{Bool, true, false}
-use mathlib.Core.List.{List, [], _∷_, _++_, append-assoc}
+use mathlib.Core.List.{[], _++_, append-assoc}
 use mathlib.Core.Path.{_≡_, refl, ap, ap₂, sym, _∙_}
-use Prim.Native.Nat.{ℕ, _+_, _-_, _*_, _≤_}
+use Prim.Native.Nat.{ℕ, _≤_}
 use native.Mathlib.Omega.{arith}
-use borrow.Author.Tests.{eqb-true, leb-true, le-leb, leb-false}
+use borrow.Author.Tests.{eqb-true, leb-true, leb-false}
 use lib.Dec.{eqb, leb}
 use lib.ListN.{length}
 use Rattle.paper.specs.Strings.{Bytes, Digits, Block, if_then_else_, _⊕_, sum, join}
 use Rattle.paper.specs.Figure6.{Row, minus1, row, BlockFunction}
-use Rattle.paper.specs.Figure5.{pairs, rest, Mᵢ, M′ᵢ, Muv, Mx, My, Mu, Mv, Wᵢ, Xᵢ, X as Xall, Sx, Sy, S as Sall, S′ᵢ, Yᵢ, Zᵢ, C′ᵢ, Cᵢ, Cu, Cv, Y as Yall, Cy, Cx, core}
+use Rattle.paper.specs.Figure5.{pairs, rest, Mᵢ, M′ᵢ, Mx, My, Mu, Mv, Wᵢ, Xᵢ, X as Xall, Sx, Sy, S as Sall, S′ᵢ, Yᵢ, Zᵢ, C′ᵢ, Cᵢ, Cu, Cv, Y as Yall, Cy, Cx, core}
+use Rattle.laws.proofs.Digits.{⊕-block}
+use Rattle.laws.proofs.Tables.{no-entries}
 use Rattle.laws.proofs.Strings.{⊕-assoc, ⊕-comm, ⊕-cancel}
 use Rattle.laws.proofs.Joins.{UpTo, sum-ext, join-ext}
 use Rattle.laws.proofs.CoreParts.{Mᵢ-block, M′ᵢ-block, Mx-block, My-block, Mu-bytes, Mv-bytes, Mu-Mv, parts-joined}
-use Rattle.laws.proofs.CoreBlocks.{uvAdded, both, Wᵢ-block, Xᵢ-block, X-block, Sx-block, Sy-block, S-block, S′ᵢ-block, Yᵢ-block, Zᵢ-block, C′ᵢ-block, Y-block, Cy-block, Cv-at}
+use Rattle.laws.proofs.CoreBlocks.{uvAdded, Wᵢ-block, Xᵢ-block, X-block, Sx-block, Sy-block, S-block, S′ᵢ-block, Yᵢ-block, Zᵢ-block, C′ᵢ-block, Y-block, Cy-block}
 use Rattle.laws.proofs.CoreResult.{same-length, core-Mᵢ, core-M′ᵢ, core-Mx, core-My, core-Mu, core-Mv}
 
 -- a mask twice
@@ -25,12 +27,7 @@ twice {A} {B} p q = ⊕-cancel A B (omega (arith, p .len, q .len))
 thrice : {A B C D : Bytes} → Block A → Block B → Block C → Block D → A ⊕ B ⊕ C ⊕ D ⊕ B ⊕ C ⊕ D ≡ A
 thrice {A} {B} {C} {D} p q r s =
     let regroup : A ⊕ B ⊕ C ⊕ D ⊕ B ⊕ C ⊕ D ≡ (A ⊕ (B ⊕ C ⊕ D)) ⊕ (B ⊕ C ⊕ D) = simp ⊕-assoc in
-    regroup ∙ twice p (both (both q r) s)
-
--- no bytes
-none-left : (l : Bytes) → length l ≡ 0 → [] ≡ l
-none-left [] e = refl
-none-left (a ∷ l) e = absurd (omega arith)
+    regroup ∙ twice p (⊕-block (⊕-block q r) s)
 
 module _
     (E : BlockFunction) (E-block : (r : Row) (j : ℕ) (X : Bytes) → Block X → Block (E r j X))
@@ -122,7 +119,7 @@ module _
 
       go : (a : Bool) → eqb d 0 ≡ a → (b : Bool) → leb d 15 ≡ b
           → (if a then [] else (if a then [] else Mu E Δ x y M ⊕ E minus1 4 (Sall E Δ x y M)) ⊕ E minus1 4 (Sall E Δ x y M)) ≡ Mu E Δ x y M
-      go true e true f = none-left (Mu E Δ x y M) (Mu-bytes E Δ x y M long p true f .len ∙ eqb-true d 0 e)
+      go true e true f = sym (no-entries (Mu E Δ x y M) (Mu-bytes E Δ x y M long p true f .len ∙ eqb-true d 0 e))
       go true e false f = absurd (omega (arith, eqb-true d 0 e, leb-false d 15 f))
       go false e true f = ⊕-cancel (Mu E Δ x y M) (E minus1 4 (Sall E Δ x y M)) (omega (arith, Mu-bytes E Δ x y M long p true f .len, leb-true d 15 f, mask .len))
       go false e false f = twice (Mu-bytes E Δ x y M long p false f) mask
@@ -138,7 +135,7 @@ module _
 
       go : (b : Bool) → leb d 15 ≡ b
           → (if b then [] else (if b then [] else Mv E Δ x y M ⊕ E minus1 5 (Sall E Δ x y M)) ⊕ E minus1 5 (Sall E Δ x y M)) ≡ Mv E Δ x y M
-      go true f = none-left (Mv E Δ x y M) (Mv-bytes E Δ x y M long p true f .len)
+      go true f = sym (no-entries (Mv E Δ x y M) (Mv-bytes E Δ x y M long p true f .len))
       go false f = ⊕-cancel (Mv E Δ x y M) (E minus1 5 (Sall E Δ x y M)) (omega (arith, Mv-bytes E Δ x y M long p false f .len, mask .len))
 
   Yall-is : Yall E Δ y x C ≡ Xall E Δ x y M

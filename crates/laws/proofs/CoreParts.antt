@@ -1,27 +1,22 @@
 -- Lines 221 to 225: a string of 32 bytes or more in its parts, and back.
 use mathlib.Core.Bool.{Bool, true, false}
-use mathlib.Core.List.{List, [], _∷_, _++_, append-assoc}
+use mathlib.Core.List.{_++_, append-assoc, append-nil}
 use mathlib.Core.Path.{_≡_, refl, ap, ap₂, sym, _∙_}
-use Prim.Native.Nat.{ℕ, zero, suc, _+_, _-_, _*_, _/_, _%_, _≤_, _<_}
+use Prim.Native.Nat.{ℕ, zero, suc, _+_, _-_, _*_, _≤_}
 use native.Mathlib.Omega.{arith}
-use borrow.Author.Tests.{leb-true, leb-false}
+use borrow.Author.Tests.{leb-false}
 use lib.Dec.{leb}
 use lib.ListN.{length, take, drop, take-append-drop}
 use lib.Seq.{take-add, drop-drop}
 use Rattle.paper.specs.Strings.{Bytes, Digits, Block, if_then_else_, join}
 use Rattle.paper.specs.Figure6.{BlockFunction}
 use Rattle.paper.specs.Figure5.{pairs, rest, Mᵢ, M′ᵢ, Muv, Mx, My, Mu, Mv}
-use Rattle.laws.proofs.Digits.{append-digits, take-digits, drop-digits, zero-digits, as-digits}
+use Rattle.laws.proofs.Digits.{take-digits, drop-digits, zero-digits, as-digits}
 use Rattle.laws.proofs.Joins.{UpTo}
 
 -- 32 bytes a pair, the rest, and two blocks
 pub cut : (n : ℕ) → 32 ≤ n → 32 * pairs n + rest n + 32 ≡ n
 cut n h = omega arith
-
--- appending nothing
-pub append-none : (X : Bytes) → X ++ [] ≡ X
-append-none [] = refl
-append-none (x ∷ X) = ap (λ (l : Bytes). x ∷ l) (append-none X)
 
 -- a part of n bytes
 part : {n : ℕ} {X : Bytes} (a k : ℕ) → a + k ≤ n → Digits 8 n X → Digits 8 k (take k (drop a X))
@@ -63,7 +58,7 @@ module _ (E : BlockFunction) (Δ : Bytes) (x y : ℕ) (M : Bytes) (long : 32 ≤
 
   -- u and v are M_uv
   pub Mu-Mv : (b : Bool) → leb d 15 ≡ b → Mu E Δ x y M ++ Mv E Δ x y M ≡ Muv E Δ x y M
-  Mu-Mv true e = rw e (append-none (Muv E Δ x y M))
+  Mu-Mv true e = rw e (append-nil (Muv E Δ x y M))
   Mu-Mv false e = rw e (take-append-drop 16 (Muv E Δ x y M))
 
   -- the pairs are the first 32 m bytes

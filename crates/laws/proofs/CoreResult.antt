@@ -1,7 +1,7 @@
 -- Line 240: what AEZ-core returns has as many bytes as the string, and its parts are the C of lines 233 to 239.
 use mathlib.Core.Bool.{Bool, true, false}
-use mathlib.Core.List.{List, [], _∷_, _++_, append-assoc}
-use mathlib.Core.Path.{_≡_, refl, ap, ap₂, sym, _∙_}
+use mathlib.Core.List.{[], _++_, append-assoc, append-nil}
+use mathlib.Core.Path.{_≡_, refl, ap, sym, _∙_}
 use Prim.Native.Nat.{ℕ, _+_, _-_, _*_, _≤_}
 use native.Mathlib.Omega.{arith}
 use lib.Dec.{leb}
@@ -12,8 +12,8 @@ use Rattle.paper.specs.Figure6.{Row, BlockFunction}
 use Rattle.paper.specs.Figure5.{pairs, rest, Mᵢ, M′ᵢ, Muv, Mx, My, Mu, Mv, C′ᵢ, Cᵢ, Cu, Cv, Cy, Cx, core}
 use Rattle.laws.proofs.Digits.{append-digits, as-digits}
 use Rattle.laws.proofs.Joins.{UpTo, join-digits, join-at}
-use Rattle.laws.proofs.CoreParts.{cut, append-none}
-use Rattle.laws.proofs.CoreBlocks.{Cᵢ-block, C′ᵢ-block, Cu-bytes, Cv-at, Cv-bytes, Cx-block, Cy-block, pair-bytes, uv-bytes}
+use Rattle.laws.proofs.CoreParts.{cut}
+use Rattle.laws.proofs.CoreBlocks.{Cᵢ-block, C′ᵢ-block, Cu-bytes, Cv-at, Cx-block, Cy-block, pair-bytes, uv-bytes}
 
 -- two blocks that stand after each other
 second : (l a b : Bytes) → length a ≡ 16 → length b ≡ 16 → take 32 l ≡ a ++ b → (take 16 l ≡ a) × (take 16 (drop 16 l) ≡ b)
@@ -108,7 +108,7 @@ module _
   core-Mu = (λ i. if leb (rest (same-length i)) 15 then core-Muv i else take 16 (core-Muv i)) ∙ go (leb d 15) refl
     where
       go : (b : Bool) → leb d 15 ≡ b → (if b then uv else take 16 uv) ≡ Cu E Δ x y M
-      go true e = ap (λ (l : Bytes). Cu E Δ x y M ++ l) (Cv-at E E-block Δ Δ-block x y M long p true e) ∙ append-none (Cu E Δ x y M)
+      go true e = ap (λ (l : Bytes). Cu E Δ x y M ++ l) (Cv-at E E-block Δ Δ-block x y M long p true e) ∙ append-nil (Cu E Δ x y M)
       go false e = take-at (Cu E Δ x y M) (Cv E Δ x y M) 16 (Cu-bytes E E-block Δ Δ-block x y M long p false e .len)
 
   pub core-Mv : Mv E Δ y x C ≡ Cv E Δ x y M

@@ -1,13 +1,13 @@
 -- `Digits b n X`, a string of n digits of b bits: what each operation on strings keeps.
 use mathlib.Core.List.{List, [], _∷_, _++_}
-use mathlib.Core.Path.{_≡_, refl, ap, ap₂, sym, _∙_}
+use mathlib.Core.Path.{_≡_, ap, ap₂, _∙_}
 use Prim.Native.Nat.{ℕ, zero, suc, _+_, _-_, _^_, _≤_, _<_}
 use native.Mathlib.Omega.{arith}
 use lib.Bits.{xor-lt}
 use lib.ListN.{length, getD, take, drop, replicate, length-append, length-drop, length-replicate}
 use lib.Pow.{pow-pos}
 use lib.Seq.{length-take-le}
-use Rattle.paper.specs.Strings.{Below, Digits, zip, _⊕_}
+use Rattle.paper.specs.Strings.{Below, Digits, Block, zip, _⊕_}
 use Rattle.laws.proofs.Strings.{⊕-length}
 
 pub below-append : (n : ℕ) (X Y : List ℕ) → Below n X → Below n Y → Below n (X ++ Y)
@@ -46,6 +46,10 @@ below-⊕ k (x ∷ X) (y ∷ Y) p q = (xor-lt k x y (p .0) (q .0), below-⊕ k X
 
 pub ⊕-digits : {b n k : ℕ} {X Y : List ℕ} → Digits b n X → Digits b k Y → n ≤ k → Digits b n (X ⊕ Y)
 ⊕-digits {b} {X = X} {Y = Y} p q h = record { len = ⊕-length X Y (omega arith) ∙ p .len; low = below-⊕ b X Y (p .low) (q .low) }
+
+-- the xor of two blocks
+pub ⊕-block : {X Y : List ℕ} → Block X → Block Y → Block (X ⊕ Y)
+⊕-block p q = ⊕-digits p q (omega arith)
 
 pub append-digits : {b n k : ℕ} {X Y : List ℕ} → Digits b n X → Digits b k Y → Digits b (n + k) (X ++ Y)
 append-digits {b} {X = X} {Y = Y} p q = record { len = length-append X Y ∙ ap₂ _+_ (p .len) (q .len); low = below-append (2 ^ b) X Y (p .low) (q .low) }

@@ -1,4 +1,5 @@
--- The header bytes and the list of their strings determine each other, and the tweak determines the stretch and the strings.
+-- What a record is bound to: the header bytes and the list of their strings determine each other, and the tweak that goes to the hash
+-- determines the stretch and the strings. That another tweak gives another Δ is a matter of strength, which is not claimed.
 use mathlib.Core.Bool.{Bool, true, false, _&&_}
 use mathlib.Core.List.{List, [], _∷_, _++_}
 use mathlib.Core.Option.{Option, none, some}

@@ -1,8 +1,9 @@
 -- Sums and joins of strings that are counted from 1.
-use mathlib.Core.List.{List, [], _∷_, _++_, append-assoc}
-use mathlib.Core.Path.{_≡_, refl, ap, ap₂, sym, subst, _∙_}
-use Prim.Native.Nat.{ℕ, zero, suc, _+_, _-_, _*_, _≤_}
+use mathlib.Core.List.{_++_, append-assoc}
+use mathlib.Core.Path.{_≡_, refl, ap, ap₂, sym, _∙_}
+use Prim.Native.Nat.{ℕ, zero, suc, _-_, _*_, _≤_}
 use native.Mathlib.Decide.{decLe}
+use native.Mathlib.Nat.{mul-suc}
 use native.Mathlib.Omega.{arith}
 use lib.ListN.{length, take, drop}
 use lib.Seq.{take-at, drop-at}
@@ -34,12 +35,16 @@ unfolding join
 join-ext zero f g h = refl
 join-ext (suc m) f g h = ap₂ _++_ (join-ext m f g (fewer m (λ i. f i ≡ g i) h)) (last m (λ i. f i ≡ g i) h)
 
+-- strings of w bytes joined
+pub join-bytes : (w m : ℕ) (f : ℕ → Bytes) → UpTo m (λ i. Digits 8 w (f i)) → Digits 8 (w * m) (join m f)
+unfolding join
+join-bytes w zero f h = as-digits (omega arith) (zero-digits 8 0)
+join-bytes w (suc m) f h =
+    as-digits (sym (mul-suc w m)) (append-digits (join-bytes w m f (fewer m (λ i. Digits 8 w (f i)) h)) (last m (λ i. Digits 8 w (f i)) h))
+
 -- pairs of blocks joined
 pub join-digits : (m : ℕ) (f : ℕ → Bytes) → UpTo m (λ i. Digits 8 32 (f i)) → Digits 8 (32 * m) (join m f)
-unfolding join
-join-digits zero f h = zero-digits 8 0
-join-digits (suc m) f h =
-    as-digits (omega arith) (append-digits (join-digits m f (fewer m (λ i. Digits 8 32 (f i)) h)) (last m (λ i. Digits 8 32 (f i)) h))
+join-digits m f h = join-bytes 32 m f h
 
 -- the i-th of them
 pub join-at : (m i : ℕ) (f : ℕ → Bytes) (R : Bytes) → UpTo m (λ i. Digits 8 32 (f i)) → 1 ≤ i → i ≤ m

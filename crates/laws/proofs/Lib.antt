@@ -1,21 +1,34 @@
--- Theorems about the definitions of `paper`, in the order in which they build on each other.
+-- Theorems about the definitions of `paper`, in the order in which they build on each other. `Demand3` is what they are for.
+
+-- lists, strings, bits
 pub mod Tables
 pub mod Fronts
 pub mod Xor
 pub mod Strings
 pub mod Digits
 pub mod BitStrings
-pub mod Multiples
+pub mod BitBytes
 pub mod Padding
+pub mod Joins
+-- section 7, and the block function of Figure 6
+pub mod Multiples
 pub mod Round
 pub mod BlockFunction
-pub mod Joins
+pub mod AesBlocks
+pub mod KeyBlocks
+-- headers, the hash and the prf
 pub mod Headers
-pub mod TwelveFacts
-pub mod CoreParts
-pub mod BitBytes
+pub mod HashBlocks
+-- AEZ-tiny and AEZ-core, both ways
 pub mod Feistel
 pub mod Tiny
+pub mod CoreParts
 pub mod CoreBlocks
 pub mod CoreResult
 pub mod CoreInverse
+pub mod Ciphers
+-- sealing and opening
+pub mod Sealing
+pub mod Demand3
+-- 01's table
+pub mod TwelveFacts

@@ -1,5 +1,5 @@
 -- Multiples of blocks: doubling on bytes, and section 7's rules for n·X as equations.
-use mathlib.Core.Bool.{Bool, true, false}
+use mathlib.Core.Bool.{Bool}
 use mathlib.Core.List.{List, [], _∷_, _++_, append-assoc}
 use mathlib.Core.Logic.{_≢_}
 use mathlib.Core.Path.{_≡_, refl, ap, ap₂, sym, _∙_}
@@ -10,9 +10,9 @@ use native.Mathlib.Omega.{arith}
 use borrow.Author.Tests.{eq-eqb, ne-eqb}
 use lib.Bits.{bitXor, xor-lt, xor-shifted, xor-zero-r}
 use lib.Dec.{eqb}
-use lib.ListN.{length, getD, set, drop, replicate, length-set, List·getD-append, List·getD-eq-default}
+use lib.ListN.{length, getD, set, drop, length-set, List·getD-append, List·getD-eq-default}
 use lib.Seq.{drop-append-le, getD-set-same, getD-set-other}
-use Rattle.paper.specs.Strings.{Bytes, Below, Digits, Block, if_then_else_, _⊕_, digits, number, bits, bytes}
+use Rattle.paper.specs.Strings.{Bytes, Below, Block, if_then_else_, _⊕_, digits, number, bits, bytes}
 use Rattle.paper.specs.Section7.{zeros, shiftLeft, double, timesBits, _·_, twoTo}
 use Rattle.laws.proofs.Strings.{⊕-last}
 use Rattle.laws.proofs.Digits.{below-getD}
@@ -80,6 +80,10 @@ module _ (X : Bytes) (p : Block X) where
   shift-left =
       ap bytes (sym (drop-append-le 1 (bits X) (0 ∷ []) some-bits) ∙ sym (ap (drop 1) (shift-bits X (p .low))))
       ∙ bytes-bits (shifted X) (below-shifted X (p .low))
+
+  -- X shifted is a block
+  pub shift-block : Block (bytes (shiftLeft (bits X)))
+  shift-block = rw shift-left (record { len = length-shifted X ∙ p .len; low = below-shifted X (p .low) })
 
   -- msb(X) is the top bit of byte 0
   pub first-bit : getD (bits X) 0 0 ≡ getD X 0 0 / 128

@@ -1,7 +1,7 @@
 -- X10* of a string that is shorter than a block.
-use mathlib.Core.List.{List, [], _∷_, _++_, append-assoc}
+use mathlib.Core.List.{[], _∷_, _++_, append-assoc}
 use mathlib.Core.Path.{_≡_, refl, ap, _∙_}
-use Prim.Native.Nat.{ℕ, _+_, _-_, _%_, _<_}
+use Prim.Native.Nat.{ℕ, _-_, _%_, _<_}
 use native.Mathlib.Omega.{arith}
 use lib.ListN.{length, replicate, length-append}
 use Rattle.paper.specs.Strings.{Bytes, Digits, Block, zeroFill, pad10*}

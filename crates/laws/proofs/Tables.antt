@@ -3,6 +3,7 @@ use mathlib.Core.List.{List, [], _∷_, map}
 use mathlib.Core.Path.{_≡_, refl, ap, ap₂, sym, subst, _∙_}
 use Prim.Native.Nat.{ℕ, zero, suc, _+_, _<_}
 use native.Mathlib.Nat.{add-zero, zero-add, add-suc, suc-add, le-of-suc-le-suc, not-suc-le-zero}
+use native.Mathlib.Omega.{arith}
 use lib.ListN.{length, getD}
 use Rattle.paper.specs.Strings.{tabFrom, tab}
 
@@ -23,3 +24,8 @@ pub getD-map : (f : ℕ → ℕ) (l : List ℕ) (i : ℕ) → i < length l → g
 getD-map f [] i h = absurd (not-suc-le-zero h)
 getD-map f (x ∷ l) zero h = refl
 getD-map f (x ∷ l) (suc i) h = getD-map f l i (le-of-suc-le-suc h)
+
+-- a list of no entries
+pub no-entries : (l : List ℕ) → length l ≡ 0 → l ≡ []
+no-entries [] e = refl
+no-entries (x ∷ l) e = absurd (omega arith)

@@ -1,6 +1,6 @@
 -- The block function with another function for the S-box, so that it can be computed by the table, and that it is E.
 use mathlib.Core.List.{List, [], _∷_, map}
-use mathlib.Core.Path.{_≡_, refl, ap, sym, fun-ext, _∙_}
+use mathlib.Core.Path.{_≡_, refl, ap, fun-ext, _∙_}
 use Prim.Native.Nat.{ℕ, zero, suc, _-_, _*_}
 use Rattle.paper.specs.Strings.{Bytes, _⊕_}
 use Rattle.paper.specs.Fips197.{sbox, SubBytes, ShiftRows, MixColumns}

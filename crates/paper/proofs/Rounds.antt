@@ -1,11 +1,11 @@
 -- FIPS 197's worked products (4.2) and the first round of its worked cipher (appendix B), computed.
-use mathlib.Core.List.{List, [], _∷_, map}
+use mathlib.Core.List.{[], _∷_, map}
 use mathlib.Core.Path.{_≡_, refl, ap, fun-ext, _∙_}
 use Prim.Native.Nat.{ℕ}
 use Rattle.paper.specs.Strings.{Bytes, zip, _⊕_}
 use Rattle.paper.specs.Fips197.{_•_, mulBits, SubBytes, ShiftRows, MixColumns}
 use Rattle.paper.specs.Section7.{aesenc}
-use Rattle.paper.proofs.SBox.{looked, by-table}
+use Rattle.paper.proofs.SBox.{by-table}
 
 pub product : 0x57 • 0x83 ≡ 0xc1
 unfolding _•_ mulBits

@@ -1,7 +1,7 @@
 -- The S-box's rule, computed once over its 256 values, and the S-box by the table of them, which computes in less time than the rule.
 use mathlib.Core.Bool.{Bool, true, false}
-use mathlib.Core.List.{List, [], _∷_}
-use mathlib.Core.Path.{_≡_, refl, ap, sym, subst, fun-ext, _∙_}
+use mathlib.Core.List.{[], _∷_}
+use mathlib.Core.Path.{_≡_, refl, ap, sym, subst, _∙_}
 use Prim.Native.Nat.{ℕ, suc}
 use lib.Dec.{T, ltb, ltb→lt}
 use lib.ListN.{getD, replicate}

@@ -1,8 +1,7 @@
 -- Five values of AEZ, computed from the definitions. The key is 00 01 .. 2f, the header strings are 01, "n7", no bytes and "de".
 -- Two programs written apart from each other give the first four; one of them gives the fifth, which has a pair of blocks.
 use mathlib.Core.List.{List, [], _∷_}
-use mathlib.Core.Path.{_≡_, refl, ap, _∙_}
-use Prim.Native.Nat.{ℕ}
+use mathlib.Core.Path.{_≡_, refl}
 use Rattle.paper.specs.Strings.{Bytes, tab, zip, _⊕_, _or_, _and_, zeroFill, bits10*, pad10*, digits, bits, valueFrom, bytesOf, bytes, sum, join}
 use Rattle.paper.specs.Fips197.{ShiftRows, MixColumns, _•_, mulBits}
 use Rattle.paper.specs.Section7.{double, shiftLeft, timesBits, _·_, twoTo}

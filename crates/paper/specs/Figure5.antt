@@ -7,7 +7,7 @@ use Prim.Native.Nat.{ℕ, zero, suc, _+_, _-_, _*_, _/_, _%_}
 use lib.Dec.{eqb, leb, ltb}
 use lib.ListN.{length, take, drop, replicate}
 use Rattle.paper.specs.Strings.{Bytes, Bits, if_then_else_, same, _⊕_, _or_, _and_, bits0*, bits10*, pad10*, number, numberBits, bits, bytes, sum, join}
-use Rattle.paper.specs.Figure6.{Row, minus1, row, BlockFunction, AEZ-hash, AEZ-prf}
+use Rattle.paper.specs.Figure6.{minus1, row, BlockFunction, AEZ-hash, AEZ-prf}
 
 -- L and R of AEZ-tiny
 pub record Halves : Type 0 where

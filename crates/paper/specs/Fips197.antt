@@ -1,7 +1,7 @@
 -- FIPS 197, with the sections of the edition of 2001: the field, the S-box by its rule, and three of the four steps of a round. The
 -- fourth, AddRoundKey, is the xor of strings.
 -- A byte is the number below 256 whose bit i is the coefficient of x^i. The sum of two bytes is their exclusive or (4.1).
-use mathlib.Core.List.{List, [], _∷_, _++_, map}
+use mathlib.Core.List.{[], _∷_, _++_, map}
 use Prim.Native.Nat.{ℕ, zero, suc, _+_, _*_, _/_, _%_, _^_}
 use lib.Bits.{bitXor}
 use lib.Dec.{eqb}

@@ -1,5 +1,4 @@
 // The block function E of Figure 6 of the AEZ paper: the key record, the table of index pairs, and E itself.
-ghost use mathlib.Core.List.{List, [], _∷_};
 ghost use mathlib.Core.Path.{_≡_};
 ghost use Prim.Native.Nat.{_+_, _-_, _*_, _<_, _≤_};
 ghost use lib.ListN.{length};

@@ -1,7 +1,7 @@
 -- `aes::aes4` meets its contract. The invariant: s has had the rounds of the keys before key i.
 use mathlib.Core.List.{[]}
 use mathlib.Core.Path.{_≡_, refl, ap, ap₂, sym, _∙_}
-use Prim.Native.Nat.{ℕ, _+_, _-_, _≤_}
+use Prim.Native.Nat.{ℕ, _-_, _≤_}
 use native.Mathlib.Omega.{arith}
 use borrow.Author.Needs.{needs}
 use lib.ListN.{length, take, drop, getD}

@@ -4,7 +4,7 @@ use mathlib.Core.Path.{_≡_, refl, sym, _∙_}
 use Prim.Native.Nat.{_-_, _≤_}
 use native.Mathlib.Omega.{arith}
 use borrow.Author.Needs.{needs}
-use lib.ListN.{length, getD, length-map}
+use lib.ListN.{length, length-map}
 use Rattle.paper.specs.Fips197.{sbox, SubBytes}
 use Rattle.laws.proofs.Fronts.{Front, front-more, front-all}
 use Rattle.laws.proofs.Tables.{getD-map}

@@ -1,5 +1,5 @@
 -- `tbc::e` meets its contract.
-use mathlib.Core.Path.{_≡_, refl, ap, ap₂, sym, _∙_}
+use mathlib.Core.Path.{refl, ap, ap₂, sym, _∙_}
 use Prim.Native.Nat.{ℕ}
 use borrow.Author.Needs.{needs}
 use Rattle.paper.specs.Strings.{Bytes, _⊕_}

@@ -1,11 +1,11 @@
 -- `tbc::e_running` meets its contract.
-use mathlib.Core.Path.{_≡_, refl, ap, ap₂, sym, _∙_}
+use mathlib.Core.Path.{refl, ap, ap₂, sym, _∙_}
 use Prim.Native.Nat.{ℕ, _≤_}
 use native.Mathlib.Omega.{arith}
 use borrow.Author.Needs.{needs}
 use Rattle.paper.specs.Strings.{Bytes, _⊕_}
 use Rattle.paper.specs.Section7.{_·_, AES}
-use Rattle.paper.specs.Figure6.{Row, row, k0, E}
+use Rattle.paper.specs.Figure6.{Row, k0, E}
 use Rattle.laws.proofs.BlockFunction.{E-406-1, E-406-2, E-408}
 use Rattle.tbc.specs.Meaning.{blocks, Running}
 use Rattle.tbc.proofs.Masks.{row-of, mask}
