@@ -8,7 +8,7 @@ use borrow.Author.Tests.{eqb-true, eqb-false}
 use lib.Dec.{eqb}
 use lib.ListN.{length, drop, length-take, length-drop}
 use Rattle.paper.specs.Strings.{Bytes, Below, Digits, Block, if_then_else_, _⊕_, pad10*, number, sum}
-use Rattle.paper.specs.Figure6.{Row, minus1, row, BlockFunction, blockAt, hashString, hashFrom, AEZ-hash, AEZ-prf}
+use Rattle.paper.specs.Figure6.{Row, minus1, row, BlockFunction, blockAt, hashString, hashFrom, AEZ-hash, prfFrom, AEZ-prf}
 use Rattle.paper.specs.Figure5.{tweak}
 use Rattle.laws.proofs.Digits.{⊕-block, take-digits, zero-digits, as-digits, below-take, below-drop}
 use Rattle.laws.proofs.Joins.{sum-block, join-bytes}
@@ -70,11 +70,10 @@ module _ (f : BlockFunction) (f-block : (r : Row) (j : ℕ) (X : Bytes) → Bloc
   hash-block T p = from-block 1 T p
 
   pub prf-bytes : (T : List Bytes) (t : ℕ) → AllBytes T → Digits 8 t (AEZ-prf f T t)
-  unfolding AEZ-prf
-  prf-bytes T t p = take-digits t (omega arith) (join-bytes 16 ((t + 15) / 16) block (λ i a b. f-block minus1 3 _ (⊕-block (hash-block T p) (number-block (i - 1)))))
-    where
-      block : ℕ → Bytes
-      block i = f minus1 3 (AEZ-hash f T ⊕ number (i - 1))
+  unfolding AEZ-prf prfFrom
+  prf-bytes T t p =
+      take-digits t (omega arith)
+      (join-bytes 16 ((t + 15) / 16) (λ i. f minus1 3 (AEZ-hash f T ⊕ number (i - 1))) (λ i a b. f-block minus1 3 _ (⊕-block (hash-block T p) (number-block (i - 1)))))
 
 -- ---- tweaks
 

@@ -178,3 +178,41 @@ unfolding logHeader logItems
 log-header-reads nonce host collector locale p q r s =
     let o = optional-fits collector (optional locale []) 1 r (optional-fits locale [] 0 s (omega arith, tt)) in
     write-read (logItems nonce host collector locale) (record { least = omega arith; most = omega (arith, o .0); each = (p, (q, o .1)) })
+
+-- ---- Reading as a walk: the count, then that many strings
+
+-- as many strings as were asked for
+abbrev IfCount : ℕ → Option (List Bytes) → Type 0
+IfCount n none = Unit {0}
+IfCount n (some ss) = length ss ≡ n
+
+one-counted : (n : ℕ) (b : Bool) (s : Bytes) (o : Option (List Bytes)) → IfCount n o → IfCount (suc n) (if b then inFront s o else none)
+one-counted n true s none p = tt
+one-counted n true s (some ss) p = ap suc p
+one-counted n false s o p = tt
+
+counted : (n : ℕ) (h : Bytes) → IfCount n (readStrings n h)
+unfolding readStrings
+counted zero [] = refl
+counted zero (b ∷ h) = tt
+counted (suc n) [] = tt
+counted (suc n) (high ∷ []) = tt
+counted (suc n) (high ∷ low ∷ h) =
+    let size : ℕ = high * 256 + low in
+    one-counted n (leb size longestString && leb size (length h)) (take size h) (readStrings n (drop size h)) (counted n (drop size h))
+
+-- a header that reads: after its first byte that many strings read, at most 16
+pub read-strings : (h : Bytes) (ss : List Bytes) → readHeader h ≡ some ss → (readStrings (length ss) (drop 1 h) ≡ some ss) × (length ss ≤ 16)
+unfolding readHeader
+read-strings [] ss e = absurd (none-some e)
+  where
+    none-some : _≡_ {A = Option (List Bytes)} none (some ss) → ⊥
+    none-some e = let z : _≡_ {A = ℕ} 0 1 = cc in omega arith
+read-strings (count ∷ h) ss e = go (leb 1 count) (leb count mostStrings) refl e
+  where
+    go : (a b : Bool) → leb count mostStrings ≡ b → (if a && b then readStrings count h else none) ≡ some ss → (readStrings (length ss) h ≡ some ss) × (length ss ≤ 16)
+    go true true f q =
+        let n : length ss ≡ count = subst (IfCount count) q (counted count h) in
+        (ap (λ (k : ℕ). readStrings k h) n ∙ q, omega (arith, n, leb-true count mostStrings f))
+    go true false f q = let z : _≡_ {A = ℕ} 0 1 = cc in absurd (omega arith)
+    go false b f q = let z : _≡_ {A = ℕ} 0 1 = cc in absurd (omega arith)

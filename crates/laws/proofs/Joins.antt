@@ -1,7 +1,7 @@
 -- Sums and joins of strings that are counted from 1.
 use mathlib.Core.List.{_++_, append-assoc}
 use mathlib.Core.Path.{_≡_, refl, ap, ap₂, sym, _∙_}
-use Prim.Native.Nat.{ℕ, zero, suc, _-_, _*_, _≤_}
+use Prim.Native.Nat.{ℕ, zero, suc, _+_, _-_, _*_, _≤_}
 use native.Mathlib.Decide.{decLe}
 use native.Mathlib.Nat.{mul-suc}
 use native.Mathlib.Omega.{arith}
@@ -67,3 +67,12 @@ join-at (suc m) i f R h a b = go (decLe i m) (λ c. join-at m i f (f (suc m) ++ 
         ∙ ap (take 32) (drop-at (join m f) (f (suc m) ++ R) (32 * (i - 1)) long)
         ∙ take-at (f (suc m)) R 32 (last m (λ i. Digits 8 32 (f i)) h .len)
         ∙ ap f e
+
+-- a sum with its next term, counted as a loop does
+pub sum-more : (j : ℕ) (f : ℕ → Bytes) → 1 ≤ j → sum (j + 1 - 1) f ≡ sum (j - 1) f ⊕ f j
+unfolding sum
+sum-more zero f h = absurd (omega arith)
+sum-more (suc j) f h =
+    let next : suc j + 1 - 1 ≡ suc j = omega arith in
+    let this : j ≡ suc j - 1 = omega arith in
+    ap (λ (n : ℕ). sum n f) next ∙ ap (λ (n : ℕ). sum n f ⊕ f (suc j)) this

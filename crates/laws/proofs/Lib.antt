@@ -19,6 +19,7 @@ pub mod KeyBlocks
 -- headers, the hash and the prf
 pub mod Headers
 pub mod HashBlocks
+pub mod Hash
 -- AEZ-tiny and AEZ-core, both ways
 pub mod Feistel
 pub mod Tiny

@@ -5,7 +5,7 @@ use mathlib.Core.Path.{_≡_, refl}
 use Rattle.paper.specs.Strings.{Bytes, tab, zip, _⊕_, _or_, _and_, zeroFill, bits10*, pad10*, digits, bits, valueFrom, bytesOf, bytes, sum, join}
 use Rattle.paper.specs.Fips197.{ShiftRows, MixColumns, _•_, mulBits}
 use Rattle.paper.specs.Section7.{double, shiftLeft, timesBits, _·_, twoTo}
-use Rattle.paper.specs.Figure6.{Key, keyOf, E, BlockFunction, hashString, hashFrom, AEZ-hash, AEZ-prf}
+use Rattle.paper.specs.Figure6.{Key, keyOf, E, BlockFunction, hashString, hashFrom, AEZ-hash, prfFrom, AEZ-prf}
 use Rattle.paper.specs.Figure5.{turn, turnsUp, lastStep, encipherTiny, Wᵢ, Xᵢ, X, Sx, Sy, S, S′ᵢ, Yᵢ, Zᵢ, C′ᵢ, Cᵢ, Cu, Cv, Y, Cy, Cx, core, encipher, encrypt}
 use Rattle.paper.proofs.ByTable.{roundsBy, AESBy, hashRowOver, EOver, E-looked, E-by-table}
 
@@ -53,7 +53,7 @@ pub record Values (e : BlockFunction) : Type 0 where
   pub sixty-four : encrypt e strings 0 (tab 64 (λ i. i)) ≡ sixty-four-sealed
 
 looked-values : Values (E-looked key)
-unfolding AESBy roundsBy EOver hashRowOver keyOf ShiftRows MixColumns _•_ mulBits double shiftLeft timesBits _·_ twoTo zip _⊕_ _or_ _and_ zeroFill bits10* pad10* digits bits valueFrom bytesOf bytes sum join hashString hashFrom AEZ-hash AEZ-prf turn turnsUp lastStep encipherTiny Wᵢ Xᵢ X Sx Sy S S′ᵢ Yᵢ Zᵢ C′ᵢ Cᵢ Cu Cv Y Cy Cx core encipher encrypt
+unfolding AESBy roundsBy EOver hashRowOver keyOf ShiftRows MixColumns _•_ mulBits double shiftLeft timesBits _·_ twoTo zip _⊕_ _or_ _and_ zeroFill bits10* pad10* digits bits valueFrom bytesOf bytes sum join hashString hashFrom AEZ-hash prfFrom AEZ-prf turn turnsUp lastStep encipherTiny Wᵢ Xᵢ X Sx Sy S S′ᵢ Yᵢ Zᵢ C′ᵢ Cᵢ Cu Cv Y Cy Cx core encipher encrypt
 looked-values = record { empty = refl; five = refl; five-unstretched = refl; thirty-two = refl; sixty-four = refl }
 
 pub values : Values (E key)

@@ -89,8 +89,10 @@ module _ (E : BlockFunction) where
   unfoldable pub AEZ-hash : List Bytes → Bytes
   AEZ-hash T = hashFrom 1 T
 
-  -- 310 to 312, cut to t bytes: block i, counted from 1, is E of Δ ⊕ [i - 1]_128
+  -- 312, cut to t bytes: block i, counted from 1, is E of Δ ⊕ [i - 1]_128
+  unfoldable pub prfFrom : Bytes → ℕ → Bytes
+  prfFrom Δ t = take t (join ((t + 15) / 16) (λ i. E minus1 3 (Δ ⊕ number (i - 1))))
+
+  -- 310, 311
   unfoldable pub AEZ-prf : List Bytes → ℕ → Bytes
-  AEZ-prf T t =
-      let Δ = AEZ-hash T in
-      take t (join ((t + 15) / 16) (λ i. E minus1 3 (Δ ⊕ number (i - 1))))
+  AEZ-prf T t = prfFrom (AEZ-hash T) t

@@ -1,1 +1,2 @@
 mod Masks
+pub mod Powers

@@ -1,9 +1,10 @@
 -- What the structs of `tbc` stand for in Figure 6.
 use mathlib.Core.Bool.{Bool, false}
 use mathlib.Core.Path.{_≡_}
-use Prim.Native.Nat.{ℕ, _-_, _/_, _≤_}
+use Prim.Native.Nat.{ℕ, _-_, _/_, _%_, _≤_}
+use lib.Dec.{eqb}
 use Rattle.paper.specs.Strings.{Bytes, if_then_else_}
-use Rattle.paper.specs.Section7.{twoTo}
+use Rattle.paper.specs.Section7.{double, twoTo}
 use Rattle.paper.specs.Figure6 as figure6
 use Rattle.paper.specs.Figure6.{Row, minus1, row}
 use Rattle.tbc.specs.declared.Key.{Key}
@@ -20,6 +21,10 @@ pair minus first second = record { 0 = minus; 1 = first; 2 = second }
 -- the first index of a pair
 abbrev pub rowOf : Pair → Row
 rowOf p = if p .0 then minus1 else row (p .1)
+
+-- the power that follows the power for b
+abbrev pub nextPower : ℕ → Bytes → Bytes
+nextPower b power = if eqb (b % 8) 0 then double power else power
 
 -- the pair whose second index counts up from 1 in a row from 1 on, and the power of L that goes with it
 pub record Running (k : Key) (p : Pair) (power : Bytes) : Type 0 where

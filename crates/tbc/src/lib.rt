@@ -5,7 +5,7 @@ ghost use lib.ListN.{length};
 ghost use Rattle.paper.specs.Strings.{_⊕_};
 ghost use Rattle.paper.specs.Section7.{_·_, AES4};
 ghost use Rattle.paper.specs.Figure6.{keyOf, k0, k1, k2, K10, Defined, E};
-ghost use Rattle.tbc.specs.Meaning.{blocks, pair, rowOf, Running};
+ghost use Rattle.tbc.specs.Meaning.{blocks, pair, rowOf, nextPower, Running};
 
 // The key: the blocks I, J and L.
 pub struct Key {
@@ -137,6 +137,16 @@ fn row_number(row: u32) -> u64
     ensures { λ r. ⌜ r ≡ (row - 2) * 8 ⌝ }
 {
     ((row - 2) as u64) * 8
+}
+
+// The power of L for the second index that follows b, from the power for b: it doubles after each eighth.
+pub fn next_power(b: u32, power: [u8; 16]) -> [u8; 16]
+    ensures { λ r. ⌜ r ≡ nextPower b power ⌝ }
+{
+    if b % 8 == 0 {
+        return block::double(power);
+    }
+    power
 }
 
 // E for a pair whose second index counts up: lines 406 and 408. power is 2^floor((b - 1) / 8)·L for the second index b, which a loop

@@ -1,0 +1,78 @@
+-- A block copied to the front of a buffer, byte by byte, and blocks put one after the other until the buffer is full.
+use mathlib.Core.List.{[], _∷_, _++_, append-assoc, append-nil}
+use mathlib.Core.Path.{_≡_, ap, ap₂, sym, _∙_}
+use Prim.Native.Nat.{ℕ, suc, _+_, _-_, _≤_, _<_, min}
+use native.Mathlib.Decide.{decLe}
+use native.Mathlib.Numerals.{add-one}
+use native.Mathlib.Omega.{arith}
+use lib.ListN.{length, take, drop, getD, set, length-append, length-drop, drop-of-length-le}
+use lib.Seq.{set-at, take-suc, drop-cons, length-take-le, take-all, take-at, take-append-add}
+use Rattle.paper.specs.Strings.{Bytes, join}
+use Rattle.hash.specs.Fitted.{fitted}
+
+-- one byte more of y at the front of s
+pub one-more : (s y r : Bytes) (i : ℕ) → i < length s → i < length y → r ≡ take i y ++ drop i s → set r i (getD y i 0) ≡ take (i + 1) y ++ drop (i + 1) s
+one-more s y r i h g e =
+    ap (λ (l : Bytes). set l i (getD y i 0)) (e ∙ ap (λ (l : Bytes). take i y ++ l) (drop-cons s i 0 h))
+    ∙ set-at (take i y) (getD s i 0) (drop (suc i) s) (getD y i 0) i (length-take-le i y (omega arith))
+    ∙ sym (append-assoc (take i y) (getD y i 0 ∷ []) (drop (suc i) s))
+    ∙ ap₂ (λ (l : Bytes) (n : ℕ). l ++ drop n s) (sym (take-suc y i 0 g)) (sym (add-one i))
+    ∙ ap (λ (n : ℕ). take n y ++ drop (i + 1) s) (sym (add-one i))
+
+-- what was put at the front, cut to 16 bytes, is what fits
+fitted-front : (D y : Bytes) → length y ≡ 16 → take 16 (fitted D y) ≡ take (length D) y
+unfolding fitted
+fitted-front D y e = go (decLe 16 (length D))
+  where
+    go : Dec (16 ≤ length D) → take 16 (take (min (length D) 16) y ++ drop (min (length D) 16) D) ≡ take (length D) y
+    go (yes h) =
+        let n : min (length D) 16 ≡ 16 = omega arith in
+        ap (λ (k : ℕ). take 16 (take k y ++ drop k D)) n
+        ∙ take-at (take 16 y) (drop 16 D) 16 (length-take-le 16 y (omega arith))
+        ∙ take-all 16 y (omega arith)
+        ∙ sym (take-all (length D) y (omega arith))
+    go (no h) =
+        let n : min (length D) 16 ≡ length D = omega (arith, h) in
+        ap (λ (k : ℕ). take 16 (take k y ++ drop k D)) n
+        ∙ ap (λ (l : Bytes). take 16 (take (length D) y ++ l)) (drop-of-length-le D {i = length D} (omega arith))
+        ∙ ap (take 16) (append-nil (take (length D) y))
+        ∙ take-all 16 (take (length D) y) (omega (arith, length-take-le (length D) y (omega (arith, h)), h))
+
+-- one block more: out holds the first blocks J, and then y as far as it fits
+pub block-more : (out J y : Bytes) (at : ℕ) → length J ≡ at → length y ≡ 16 → at < length out → take at out ≡ take (length out) J
+    → take (at + 16) (take at out ++ fitted (drop at out) y) ≡ take (length out) (J ++ y)
+block-more out J y at l e h f =
+    let front : take at out ≡ J = f ∙ take-all (length out) J (omega arith) in
+    let rest : length (drop at out) ≡ length out - at = length-drop at out in
+    let n : length J + (length out - at) ≡ length out = omega arith in
+    ap₂ (λ (u : Bytes) (k : ℕ). take (k + 16) (u ++ fitted (drop at out) y)) front (sym l)
+    ∙ take-append-add J (fitted (drop at out) y) 16
+    ∙ ap (λ (u : Bytes). J ++ u) (fitted-front (drop at out) y e ∙ ap (λ (k : ℕ). take k y) rest)
+    ∙ sym (take-append-add J y (length out - at))
+    ∙ ap (λ (k : ℕ). take k (J ++ y)) n
+
+-- the length stays
+pub fitted-length : (D y : Bytes) → length y ≡ 16 → length (fitted D y) ≡ length D
+unfolding fitted
+fitted-length D y e =
+    length-append (take (min (length D) 16) y) (drop (min (length D) 16) D)
+    ∙ omega (arith, length-take-le (min (length D) 16) y (omega arith), length-drop (min (length D) 16) D)
+
+pub join-more : (i : ℕ) (f : ℕ → Bytes) → join (i + 1) f ≡ join i f ++ f (i + 1)
+unfolding join
+join-more i f = ap (λ (n : ℕ). join n f) (add-one i) ∙ ap (λ (n : ℕ). join i f ++ f n) (sym (add-one i))
+
+-- a buffer whose end was lent and came back with y at its front
+pub lent : (out y : Bytes) (at : ℕ) (ys : Bytes) → at ≤ length out → ys ≡ fitted (take (length out - at) (drop at out)) y
+    → take at out ++ (ys ++ drop (length out - at) (drop at out)) ≡ take at out ++ fitted (drop at out) y
+lent out y at ys h e =
+    let rest : length (drop at out) ≡ length out - at = length-drop at out in
+    let all : take (length out - at) (drop at out) ≡ drop at out = take-all (length out - at) (drop at out) (omega arith) in
+    let none : drop (length out - at) (drop at out) ≡ [] = drop-of-length-le (drop at out) {i = length out - at} (omega arith) in
+    ap₂ (λ (u v : Bytes). take at out ++ (u ++ v)) (e ∙ ap (λ (u : Bytes). fitted u y) all) none
+    ∙ ap (λ (u : Bytes). take at out ++ u) (append-nil (fitted (drop at out) y))
+
+pub lent-length : (out y : Bytes) (at : ℕ) → length y ≡ 16 → at ≤ length out → length (take at out ++ fitted (drop at out) y) ≡ length out
+lent-length out y at e h =
+    length-append (take at out) (fitted (drop at out) y)
+    ∙ omega (arith, length-take-le at out h, fitted-length (drop at out) y e, length-drop at out)

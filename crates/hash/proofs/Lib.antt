@@ -1,0 +1,3 @@
+mod Rows
+mod Walked
+mod Fitting

@@ -1,0 +1,106 @@
+-- `hash::full_blocks` meets its contract. The invariant: the blocks before the j-th are summed, and the power is the j-th's.
+use mathlib.Core.List.{List}
+use mathlib.Core.Path.{_≡_, refl, ap, ap₂, sym, _∙_}
+use Prim.Native.Nat.{ℕ, _+_, _-_, _*_, _/_, _≤_}
+use native.Mathlib.Omega.{arith}
+use borrow.Author.Needs.{needs}
+use lib.ListN.{length, take, drop}
+use Rattle.paper.specs.Strings.{_⊕_, sum}
+use Rattle.paper.specs.Section7.{twoTo}
+use Rattle.paper.specs.Figure6.{row, E, blockAt}
+use Rattle.laws.proofs.Joins.{sum-more}
+use Rattle.laws.proofs.Multiples.{twoTo-zero}
+use Rattle.tbc.specs.Meaning.{blocks, pair}
+use Rattle.tbc.specs.declared.Pair.{Pair}
+use Rattle.tbc.proofs.Powers.{next}
+use Rattle.hash.proofs.Rows.{at-pair, running}
+use Rattle.hash.proofs.full_blocks.Statement.{statement}
+use Rattle.hash.proofs.full_blocks.Tie as tie
+
+abbrev Inv-loop : tie.InvT-loop
+Inv-loop k i t pairs total₀ power₀ at₀ j₀ total power at j =
+    (1 ≤ j) × (at ≡ 16 * (j - 1)) × (at ≤ length t) × (total ≡ sum (j - 1) (λ j. E (blocks k) (row (2 + i)) j (blockAt t j))) × (power ≡ twoTo ((j - 1) / 8) (k .l))
+
+abbrev μ-loop : tie.MeasureT-loop
+μ-loop k i t pairs total₀ power₀ at₀ j₀ total power at j = length t - at
+
+string-requires : tie.Need-string-requires Inv-loop μ-loop
+string-requires c κs = search needs
+
+loop-holds : tie.Need-loop-holds Inv-loop μ-loop
+loop-holds c =
+    (omega arith, omega arith, omega arith, unfold sum in refl, sym (twoTo-zero (c .before .before .before .args .k .l)))
+
+sub-loop : tie.Need-sub-loop Inv-loop μ-loop
+sub-loop c = search needs
+
+load-requires : tie.Need-load-requires Inv-loop μ-loop
+load-requires c κs = omega (arith, c .before .loop .inv .2)
+
+at-requires : tie.Need-at-requires Inv-loop μ-loop
+at-requires c κs = search needs
+
+e-running-requires : tie.Need-e-running-requires Inv-loop μ-loop
+e-running-requires c κs =
+    let l = c .before .before .before .loop in
+    let a = c .before .before .before .before .before .before .before .args in
+    running (a .k) (c .at .result) (l .power) (a .i) (l .j) (l .inv .0) (c .at .ensures ∙ ap (λ (q : Pair). pair (q .0) (q .1) (l .j)) (c .before .before .before .before .before .string .ensures)) (l .inv .4)
+
+xor-requires : tie.Need-xor-requires Inv-loop μ-loop
+xor-requires c κs = search needs
+
+next-power-requires : tie.Need-next-power-requires Inv-loop μ-loop
+next-power-requires c κs = search needs
+
+add-at : tie.Need-add-at Inv-loop μ-loop
+add-at c = search needs
+
+add-j : tie.Need-add-j Inv-loop μ-loop
+add-j c = search needs
+
+loop-less : tie.Need-loop-less Inv-loop μ-loop
+loop-less c = search needs
+
+loop-again : tie.Need-loop-again Inv-loop μ-loop
+loop-again c =
+    let l = c .before .before .before .before .before .before .loop in
+    let a = c .before .before .before .before .before .before .before .before .before .before .args in
+    let t : List ℕ = a .t .now in
+    let p = c .before .before .before .at .ensures ∙ ap (λ (q : Pair). pair (q .0) (q .1) (l .j)) (c .before .before .before .before .before .before .before .before .string .ensures) in
+    let x : c .before .before .before .before .load .result ≡ blockAt t (l .j) = c .before .before .before .before .load .ensures ∙ ap (λ (n : ℕ). take 16 (drop n t)) (l .inv .1) in
+    let term = c .before .before .e-running .ensures ∙ at-pair (blocks (a .k)) _ (a .i) (l .j) _ p ∙ ap (E (blocks (a .k)) (row (2 + a .i)) (l .j)) x in (
+      omega arith,
+      omega (arith, l .inv .1),
+      omega arith,
+      c .before .xor .ensures
+          ∙ ap₂ _⊕_ (l .inv .3) term
+          ∙ sym (sum-more (l .j) (λ j. E (blocks (a .k)) (row (2 + a .i)) j (blockAt t j)) (l .inv .0)),
+      c .next-power .ensures ∙ next (l .j) (a .k .l) (l .power) (l .inv .0) (l .inv .4),
+    )
+
+returns : tie.Need-returns Inv-loop μ-loop
+returns c =
+    let l = c .before .loop in
+    let a = c .before .before .before .before .before .args in
+    let done : l .j - 1 ≡ length (a .t .now) / 16 = omega (arith, l .inv .1, l .inv .2) in
+    l .inv .3 ∙ ap (λ (n : ℕ). sum n (λ j. E (blocks (a .k)) (row (2 + a .i)) j (blockAt (a .t .now) j))) done
+
+pub full-blocks-spec : {M : Type 1} → statement M
+full-blocks-spec =
+    tie.close
+    (tie.spec
+    Inv-loop
+    μ-loop
+    string-requires
+    loop-holds
+    sub-loop
+    load-requires
+    at-requires
+    e-running-requires
+    xor-requires
+    next-power-requires
+    add-at
+    add-j
+    loop-less
+    loop-again
+    returns)

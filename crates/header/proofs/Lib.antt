@@ -1,0 +1,4 @@
+pub mod Walk
+pub mod Placed
+pub mod Items
+pub mod Answers

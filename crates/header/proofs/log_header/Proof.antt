@@ -1,0 +1,54 @@
+-- `header::log_header` meets its contract.
+use mathlib.Core.List.{_++_}
+use mathlib.Core.Path.{_≡_, ap, sym, _∙_}
+use Prim.Native.Nat.{ℕ, _+_}
+use native.Mathlib.Omega.{arith}
+use borrow.Author.Needs.{needs}
+use lib.ListN.{length, drop}
+use Rattle.paper.specs.Strings.{Bytes}
+use Rattle.paper.specs.Document01.{logHeader, done}
+use Rattle.header.specs.Building.{outcome, placed}
+use Rattle.header.proofs.Items.{items-fit, builds-0}
+use Rattle.header.proofs.Answers.{refuses, accepts}
+use Rattle.header.proofs.log_header.Statement.{statement}
+use Rattle.header.proofs.log_header.Tie as tie
+
+-- answer 0: the length of what stands first in the output
+wrote : (z n : ℕ) (w out last : Bytes) → z ≡ 0 → n ≡ length w → last ≡ placed 0 w out → outcome (record { number = z; length = n }) last ≡ done (length w) w out
+wrote z n w out last e p q =
+    let all : 0 + length w ≡ length w = omega arith in
+    let o : last ≡ w ++ drop (length w) out = q ∙ ap (λ (k : ℕ). w ++ drop k out) all in
+    λ i. record { number = e i; size = p i; output = o i }
+
+settled-requires : tie.Need-settled-requires
+settled-requires c κs = search needs
+
+returns : tie.Need-returns
+returns c =
+    let a = c .before .before .before .before .before .before .before .args in
+    sym (refuses (a .nonce .now) (a .host .now) (a .collector .now) (a .locale .now) (c .before .settled .result) (a .out .now) (c .before .settled .ensures) (c .if1 .taken))
+
+put-log-requires : tie.Need-put-log-requires
+put-log-requires c κs =
+    let a = c .before .before .before .before .before .before .before .before .args in
+    accepts (a .nonce .now) (a .host .now) (a .collector .now) (a .locale .now) (c .before .before .settled .result) _ (c .before .before .settled .ensures) (c .before .if1 .left) .1
+
+log-length-requires : tie.Need-log-length-requires
+log-length-requires c κs =
+    let a = c .before .before .before .before .before .before .before .before .before .before .before .args in
+    items-fit (a .nonce .now) (a .host .now) (a .collector .now) (a .locale .now) (accepts (a .nonce .now) (a .host .now) (a .collector .now) (a .locale .now) (c .before .before .before .before .before .settled .result) _ (c .before .before .before .before .before .settled .ensures) (c .before .before .before .before .if1 .left) .0)
+
+same-length : tie.Need-same-length
+same-length c = search needs
+
+returns-2 : tie.Need-returns-2
+returns-2 c =
+    let a = c .before .before .before .before .before .before .before .before .before .before .before .before .args in
+    let ok = accepts (a .nonce .now) (a .host .now) (a .collector .now) (a .locale .now) (c .before .before .before .before .before .before .settled .result) _ (c .before .before .before .before .before .before .settled .ensures) (c .before .before .before .before .before .if1 .left) in
+    wrote (c .before .before .before .before .before .before .settled .result) (c .log-length .result) (logHeader (a .nonce .now) (a .host .now) (a .collector .now) (a .locale .now)) (a .out .now) (c .before .before .before .put-log .last .1 .1 .1 .1 .0) (c .before .before .before .before .before .if1 .left) (c .log-length .ensures) (c .before .before .before .put-log .ensures)
+    ∙ sym (builds-0 (a .nonce .now) (a .host .now) (a .collector .now) (a .locale .now) (ok .0) (a .out .now) (ok .1))
+
+pub log-header-spec : {M : Type 1} → statement M
+log-header-spec =
+    tie.close
+    (tie.spec settled-requires returns put-log-requires log-length-requires same-length returns-2)

@@ -1,0 +1,49 @@
+-- `header::log_length` meets its contract.
+use native.Mathlib.Omega.{arith}
+use borrow.Author.Needs.{needs}
+use Rattle.header.proofs.Items.{log-long}
+use Rattle.header.proofs.log_length.Statement.{statement}
+use Rattle.header.proofs.log_length.Tie as tie
+
+room-requires : tie.Need-room-requires
+room-requires c κs = search needs
+
+room-requires-2 : tie.Need-room-requires-2
+room-requires-2 c κs = search needs
+
+add-always : tie.Need-add-always
+add-always c = search needs
+
+add-result : tie.Need-add-result
+add-result c = search needs
+
+optional-room-requires : tie.Need-optional-room-requires
+optional-room-requires c κs = search needs
+
+add-result-2 : tie.Need-add-result-2
+add-result-2 c = search needs
+
+optional-room-requires-2 : tie.Need-optional-room-requires-2
+optional-room-requires-2 c κs = search needs
+
+add-result-3 : tie.Need-add-result-3
+add-result-3 c = search needs
+
+returns : tie.Need-returns
+returns c =
+    let a = c .before .before .before .before .before .before .before .before .args in
+    omega (arith, log-long (a .nonce .now) (a .host .now) (a .collector .now) (a .locale .now))
+
+pub log-length-spec : {M : Type 1} → statement M
+log-length-spec =
+    tie.close
+    (tie.spec
+    room-requires
+    room-requires-2
+    add-always
+    add-result
+    optional-room-requires
+    add-result-2
+    optional-room-requires-2
+    add-result-3
+    returns)

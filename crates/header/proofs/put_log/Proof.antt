@@ -1,0 +1,112 @@
+-- `header::put_log` meets its contract: the count first, and the four parts after it.
+use mathlib.Core.List.{[], _∷_, _++_}
+use mathlib.Core.Path.{_≡_, refl, ap, sym, _∙_}
+use Prim.Native.Nat.{ℕ, _+_, _≤_}
+use native.Mathlib.Omega.{arith}
+use borrow.Author.Needs.{needs}
+use lib.ListN.{length, set, length-set}
+use Rattle.paper.specs.Strings.{Bytes}
+use Rattle.paper.specs.Document01.{writeStrings, optional, logHeader}
+use Rattle.header.specs.Building.{placed}
+use Rattle.header.proofs.Placed.{begun, begun-more}
+use Rattle.header.proofs.Items.{one-long, log-parts, log-long}
+use Rattle.header.proofs.put_log.Statement.{statement}
+use Rattle.header.proofs.put_log.Tie as tie
+
+module _ (nonce host collector locale out : Bytes) (fits : length (logHeader nonce host collector locale) ≤ length out) where
+  -- the count in front and four strings, each at the place after the one before it, are the header
+  together : (x : ℕ) → x ≡ 2 + length (optional collector []) + length (optional locale []) → (o1 o2 o3 o4 : Bytes) (p1 p2 p3 : ℕ)
+      → o1 ≡ placed 1 (writeStrings (nonce ∷ [])) (set out 0 x) → p1 ≡ 1 + length (writeStrings (nonce ∷ []))
+      → o2 ≡ placed p1 (writeStrings (host ∷ [])) o1 → p2 ≡ p1 + length (writeStrings (host ∷ []))
+      → o3 ≡ placed p2 (writeStrings (optional collector [])) o2 → p3 ≡ p2 + length (writeStrings (optional collector []))
+      → o4 ≡ placed p3 (writeStrings (optional locale [])) o3
+      → o4 ≡ placed 0 (logHeader nonce host collector locale) out
+  together x count o1 o2 o3 o4 p1 p2 p3 a1 b1 a2 b2 a3 b3 a4 =
+      let n = writeStrings (nonce ∷ []) in
+      let h = writeStrings (host ∷ []) in
+      let c = writeStrings (optional collector []) in
+      let l = writeStrings (optional locale []) in
+      let long = log-long nonce host collector locale in
+      let first = begun x out (omega (arith, long)) in
+      let second = begun-more n o1 p1 first a1 b1 (omega (arith, long)) in
+      let third = begun-more h o2 p2 second a2 b2 (omega (arith, long)) in
+      let fourth = begun-more c o3 p3 third a3 b3 (omega (arith, long)) in
+      let last = begun-more l o4 (p3 + length l) fourth a4 refl (omega (arith, long)) in
+      last .there
+      ∙ ap (λ (k : ℕ). placed 0 ((k ∷ []) ++ n ++ h ++ c ++ l) out) count
+      ∙ ap (λ (w : Bytes). placed 0 w out) (sym (log-parts nonce host collector locale))
+
+optional-count-requires : tie.Need-optional-count-requires
+optional-count-requires c κs = search needs
+
+add-out : tie.Need-add-out
+add-out c = search needs
+
+optional-count-requires-2 : tie.Need-optional-count-requires-2
+optional-count-requires-2 c κs = search needs
+
+add-out-2 : tie.Need-add-out-2
+add-out-2 c = search needs
+
+slice-write-out : tie.Need-slice-write-out
+slice-write-out c =
+    let a = c .before .before .before .before .before .before .before .args in
+    omega (arith, log-long (a .nonce .now) (a .host .now) (a .collector .now) (a .locale .now))
+
+put-requires : tie.Need-put-requires
+put-requires c κs =
+    let a = c .before .before .before .before .before .before .before .before .args in
+    simp length-set (omega (arith, log-long (a .nonce .now) (a .host .now) (a .collector .now) (a .locale .now), one-long (a .nonce .now)))
+
+put-requires-2 : tie.Need-put-requires-2
+put-requires-2 c κs =
+    let a = c .before .before .before .before .before .before .before .before .before .before .before .before .args in
+    omega (arith, log-long (a .nonce .now) (a .host .now) (a .collector .now) (a .locale .now), one-long (a .host .now), simp length-set at (c .before .before .before .put .kept .0))
+
+put-optional-requires : tie.Need-put-optional-requires
+put-optional-requires c κs =
+    let a = c .before .before .before .before .before .before .before .before .before .before .before .before .before .before .before .before .args in
+    omega (arith, log-long (a .nonce .now) (a .host .now) (a .collector .now) (a .locale .now), simp length-set at (c .before .before .before .before .before .before .before .put .kept .0))
+
+put-optional-requires-2 : tie.Need-put-optional-requires-2
+put-optional-requires-2 c κs =
+    let a = c .before .before .before .before .before .before .before .before .before .before .before .before .before .before .before .before .before .before .before .before .args in
+    omega (arith, log-long (a .nonce .now) (a .host .now) (a .collector .now) (a .locale .now), simp length-set at (c .before .before .before .before .before .before .before .before .before .before .before .put .kept .0))
+
+same-length : tie.Need-same-length
+same-length c =
+    c .before .before .put-optional2 .kept .0
+    ∙ c .before .before .before .before .before .before .put-optional .kept .0
+    ∙ c .before .before .before .before .before .before .before .before .before .before .put2 .kept .0
+    ∙ c .before .before .before .before .before .before .before .before .before .before .before .before .before .before .put .kept .0
+    ∙ simp length-set
+
+returns : tie.Need-returns
+returns c =
+    let a = c .before .before .before .before .before .before .before .before .before .before .before .before .before .before .before .before .before .before .before .before .before .before .before .args in
+    let one = c .before .before .before .before .before .before .before .before .before .before .before .before .before .before .put in
+    let two = c .before .before .before .before .before .before .before .before .before .before .put2 in
+    let three = c .before .before .before .before .before .before .put-optional in
+    let four = c .before .before .put-optional2 in
+    let collectors = c .before .before .before .before .before .before .before .before .before .before .before .before .before .before .before .before .before .optional-count in
+    let locales = c .before .before .before .before .before .before .before .before .before .before .before .before .before .before .before .before .optional-count2 in
+    together (a .nonce .now) (a .host .now) (a .collector .now) (a .locale .now) (a .out .now) (c .before .before .before .before .before .before .before .before .before .before .before .before .before .before .before .before .before .before .before .before .before .before .before .pre)
+    (2 + collectors .result + locales .result) (λ i. 2 + collectors .ensures .0 i + locales .ensures .0 i)
+    (one .last .0) (two .last .0) (three .last .0) (four .last .0) (one .result) (two .result) (three .result)
+    (one .ensures .1) (one .ensures .0) (two .ensures .1) (two .ensures .0) (three .ensures .1) (three .ensures .0) (four .ensures .1)
+
+pub put-log-spec : {M : Type 1} → statement M
+put-log-spec =
+    tie.close
+    (tie.spec
+    optional-count-requires
+    add-out
+    optional-count-requires-2
+    add-out-2
+    slice-write-out
+    put-requires
+    put-requires-2
+    put-optional-requires
+    put-optional-requires-2
+    same-length
+    returns)

@@ -1,0 +1,31 @@
+-- What the builder of the log header answers and writes.
+use mathlib.Core.Bool.{Bool, _||_, not}
+use mathlib.Core.List.{_++_}
+use Prim.Native.Nat.{ℕ, _+_}
+use lib.Dec.{eqb, ltb}
+use lib.ListN.{length, take, drop}
+use Rattle.paper.specs.Strings.{Bytes, if_then_else_}
+use Rattle.paper.specs.Document01.{Outcome, longestString, logHeader}
+use Rattle.header.specs.declared.Built.{Built}
+
+-- what a call returned, and the output that it left
+abbrev pub outcome : Built → Bytes → Outcome
+outcome r out = record { number = r .number; size = r .length; output = out }
+
+-- an item is longer than a string may be
+abbrev pub tooLong : Bytes → Bytes → Bytes → Bytes → Bool
+tooLong nonce host collector locale =
+    ltb longestString (length nonce) || ltb longestString (length host) || ltb longestString (length collector) || ltb longestString (length locale)
+
+-- the answer for an output of so many bytes
+unfoldable pub settledAs : Bytes → Bytes → Bytes → Bytes → ℕ → ℕ
+settledAs nonce host collector locale bytes =
+    if tooLong nonce host collector locale then 8 else if ltb bytes (length (logHeader nonce host collector locale)) then 6 else 0
+
+-- an item that may be left out is written
+abbrev pub kept : Bytes → Bool
+kept s = not (eqb (length s) 0)
+
+-- out with w at a place, and every other byte as it was
+abbrev pub placed : ℕ → Bytes → Bytes → Bytes
+placed at w out = take at out ++ w ++ drop (at + length w) out

@@ -1,0 +1,34 @@
+-- Where the strings of a header stand. An entry is a string after its two length bytes, high byte first.
+use mathlib.Core.List.{List}
+use mathlib.Core.Option.{Option, none, some}
+use Prim.Native.Nat.{ℕ, _+_, _-_, _*_, _≤_}
+use lib.Dec.{ltb}
+use lib.ListN.{length, getD}
+use Rattle.paper.specs.Strings.{Bytes, if_then_else_}
+use Rattle.paper.specs.Document01.{longestString}
+use Rattle.header.specs.declared.Place.{Place}
+use Rattle.header.specs.declared.Place.the-variants.{At, Bad}
+use Rattle.header.specs.declared.Reading.{Reading}
+use Rattle.header.specs.declared.Reading.the-variants as answers
+
+-- the number that the two bytes at a place represent
+abbrev pub sizeAt : Bytes → ℕ → ℕ
+sizeAt h at = getD h at 0 * 256 + getD h (at + 1) 0
+
+-- the entry at a place: bad where fewer than two bytes are left, where the string is too long, or where it runs past the end
+unfoldable pub entryAt : Bytes → ℕ → Place
+entryAt h at =
+    if ltb (length h) (at + 2) then Bad
+    else if ltb longestString (sizeAt h at) then Bad
+    else if ltb (length h) (at + 2 + sizeAt h at) then Bad
+    else At (at + 2) (at + 2 + sizeAt h at)
+
+-- the string of an entry lies within h, and is not too long
+abbrev pub Within : Place → Bytes → Type 0
+Within Bad h = Unit {0}
+Within (At start end) h = (start ≤ end) × (end ≤ length h) × (end - start ≤ longestString)
+
+-- what a reader answers: how many strings there are, where the header reads
+abbrev pub readOf : Option (List Bytes) → Reading
+readOf none = answers.Bad
+readOf (some ss) = answers.Strings (length ss)

@@ -1,0 +1,231 @@
+// Headers: where the strings of a header stand, whether a header reads, and how the log header is built.
+// Document 01, "Headers".
+ghost use mathlib.Core.List.{[], _∷_};
+ghost use mathlib.Core.Path.{_≡_};
+ghost use Prim.Native.Nat.{_+_, _<_, _≤_};
+ghost use lib.ListN.{length};
+ghost use Rattle.paper.specs.Document01.{readHeader, writeStrings, optional, logHeader, buildingLogHeader};
+ghost use Rattle.header.specs.Places.{entryAt, Within, readOf};
+ghost use Rattle.header.specs.Building.{outcome, tooLong, settledAs, kept, placed};
+
+// A string's start and end in the header, or an entry that does not read.
+pub enum Place {
+    At(usize, usize),
+    Bad,
+}
+
+// How many strings a header has, or that it does not read.
+pub enum Reading {
+    Strings(usize),
+    Bad,
+}
+
+// A byte as a number that sums can be made of.
+fn wide(x: u8) -> usize
+    ensures { λ r. ⌜ (r ≡ x) × (r < 256) ⌝ }
+{
+    x as usize
+}
+
+// The entry whose two length bytes, high byte first, stand at a place of h. The tests subtract, since a sum with at could wrap.
+pub fn entry(h: &[u8], at: usize) -> Place
+    ensures { λ r. ⌜ r ≡ entryAt (now (h .entry)) at ⌝ }
+    ensures within { λ r. ⌜ Within r (now (h .entry)) ⌝ }
+{
+    if h.len() < at {
+        return Place::Bad;
+    }
+    if h.len() - at < 2 {
+        return Place::Bad;
+    }
+    let high = wide(h[at]);
+    let low = wide(h[at + 1]);
+    let size = high * 256 + low;
+    if 1024 < size {
+        return Place::Bad;
+    }
+    let start = at + 2;
+    if h.len() - start < size {
+        return Place::Bad;
+    }
+    let end = start + size;
+    Place::At(start, end)
+}
+
+// Whether a header reads: a count from 1 to 16, then that many strings, and no byte after the last.
+pub fn read(h: &[u8]) -> Reading
+    ensures { λ r. ⌜ r ≡ readOf (readHeader (now (h .entry))) ⌝ }
+{
+    if h.len() < 1 {
+        return Reading::Bad;
+    }
+    let count = wide(h[0]);
+    if count < 1 {
+        return Reading::Bad;
+    }
+    if 16 < count {
+        return Reading::Bad;
+    }
+    let mut at: usize = 1;
+    let mut k: usize = 0;
+    while k < count {
+        let Place::At(_, end) = entry(h, at) else {
+            return Reading::Bad;
+        };
+        at = end;
+        k += 1;
+    }
+    if at != h.len() {
+        return Reading::Bad;
+    }
+    Reading::Strings(count)
+}
+
+// An answer of document 01, and the length of what was written.
+pub struct Built {
+    pub number: u32,
+    pub length: usize,
+}
+
+// Whether an item is longer than a string of a header may be.
+fn too_long(nonce: &[u8], host: &[u8], collector: &[u8], locale: &[u8]) -> bool
+    ensures { λ r. ⌜ r ≡ tooLong (now (nonce .entry)) (now (host .entry)) (now (collector .entry)) (now (locale .entry)) ⌝ }
+{
+    if 1024 < nonce.len() {
+        return true;
+    }
+    if 1024 < host.len() {
+        return true;
+    }
+    if 1024 < collector.len() {
+        return true;
+    }
+    if 1024 < locale.len() {
+        return true;
+    }
+    false
+}
+
+// Whether an item that may be left out is written. The count, the length and the writing all ask here, so that they agree.
+fn written(item: &[u8]) -> bool
+    ensures { λ r. ⌜ r ≡ kept (now (item .entry)) ⌝ }
+{
+    item.len() != 0
+}
+
+// How many strings an item that may be left out adds.
+fn optional_count(item: &[u8]) -> u8
+    ensures { λ r. ⌜ (r ≡ length (optional (now (item .entry)) [])) × (r ≤ 1) ⌝ }
+{
+    if written(item) {
+        return 1;
+    }
+    0
+}
+
+// How many bytes a string takes with its length in front.
+fn room(s: &[u8]) -> usize
+    requires { ⌜ length (now s) ≤ 1024 ⌝ }
+    ensures { λ r. ⌜ (r ≡ length (writeStrings (now (s .entry) ∷ []))) × (r ≤ 1026) ⌝ }
+{
+    2 + s.len()
+}
+
+// How many bytes an item that may be left out adds.
+fn optional_room(item: &[u8]) -> usize
+    requires { ⌜ length (now item) ≤ 1024 ⌝ }
+    ensures { λ r. ⌜ (r ≡ length (writeStrings (optional (now (item .entry)) []))) × (r ≤ 1026) ⌝ }
+{
+    if written(item) {
+        return room(item);
+    }
+    0
+}
+
+// The length of the log header, its count byte included.
+fn log_length(nonce: &[u8], host: &[u8], collector: &[u8], locale: &[u8]) -> usize
+    requires { ⌜ (length (now nonce) ≤ 1024) × (length (now host) ≤ 1024) × (length (now collector) ≤ 1024) × (length (now locale) ≤ 1024) ⌝ }
+    ensures { λ r. ⌜ r ≡ length (logHeader (now (nonce .entry)) (now (host .entry)) (now (collector .entry)) (now (locale .entry))) ⌝ }
+{
+    let always = room(nonce) + room(host);
+    1 + always + optional_room(collector) + optional_room(locale)
+}
+
+// The bytes s put at a place of out.
+fn copy(out: &mut [u8], at: usize, s: &[u8])
+    requires { ⌜ at + length (now s) ≤ length (now out) ⌝ }
+    ensures { λ _. ⌜ now (out .exit) ≡ placed at (now (s .entry)) (now (out .entry)) ⌝ }
+{
+    let mut i: usize = 0;
+    while i < s.len() {
+        out[at + i] = s[i];
+        i += 1;
+    }
+}
+
+// A string put at a place of out with its length in front, high byte first. The place after it is returned.
+fn put(out: &mut [u8], at: usize, s: &[u8]) -> usize
+    requires { ⌜ at + 2 + length (now s) ≤ length (now out) ⌝ }
+    ensures { λ r. ⌜ (r ≡ at + length (writeStrings (now (s .entry) ∷ []))) × (now (out .exit) ≡ placed at (writeStrings (now (s .entry) ∷ [])) (now (out .entry))) ⌝ }
+{
+    let size = s.len();
+    out[at] = (size / 256 % 256) as u8;
+    out[at + 1] = (size % 256) as u8;
+    copy(out, at + 2, s);
+    at + 2 + size
+}
+
+// An item that may be left out put at a place of out. The place after it is returned.
+fn put_optional(out: &mut [u8], at: usize, item: &[u8]) -> usize
+    requires { ⌜ at + length (writeStrings (optional (now item) [])) ≤ length (now out) ⌝ }
+    ensures { λ r. ⌜ (r ≡ at + length (writeStrings (optional (now (item .entry)) []))) × (now (out .exit) ≡ placed at (writeStrings (optional (now (item .entry)) [])) (now (out .entry))) ⌝ }
+{
+    if written(item) {
+        return put(out, at, item);
+    }
+    at
+}
+
+// The log header put first in out.
+fn put_log(nonce: &[u8], host: &[u8], collector: &[u8], locale: &[u8], out: &mut [u8])
+    requires { ⌜ length (logHeader (now nonce) (now host) (now collector) (now locale)) ≤ length (now out) ⌝ }
+    ensures { λ _. ⌜ now (out .exit) ≡ placed 0 (logHeader (now (nonce .entry)) (now (host .entry)) (now (collector .entry)) (now (locale .entry))) (now (out .entry)) ⌝ }
+{
+    out[0] = 2 + optional_count(collector) + optional_count(locale);
+    let second = put(out, 1, nonce);
+    let third = put(out, second, host);
+    let fourth = put_optional(out, third, collector);
+    put_optional(out, fourth, locale);
+}
+
+// What the builder answers for a room of so many bytes: 8 for an item that is too long, then 6 for a room that is too short, else 0.
+fn settled(nonce: &[u8], host: &[u8], collector: &[u8], locale: &[u8], bytes: usize) -> u32
+    ensures { λ r. ⌜ r ≡ settledAs (now (nonce .entry)) (now (host .entry)) (now (collector .entry)) (now (locale .entry)) bytes ⌝ }
+{
+    if too_long(nonce, host, collector, locale) {
+        return 8;
+    }
+    if bytes < log_length(nonce, host, collector, locale) {
+        return 6;
+    }
+    0
+}
+
+// The log header. Nothing is written before the answer is settled.
+pub fn log_header(
+    nonce: &[u8],
+    host: &[u8],
+    collector: &[u8],
+    locale: &[u8],
+    out: &mut [u8],
+) -> Built
+    ensures { λ r. ⌜ outcome r (now (out .exit)) ≡ buildingLogHeader (now (nonce .entry)) (now (host .entry)) (now (collector .entry)) (now (locale .entry)) (now (out .entry)) ⌝ }
+{
+    let number = settled(nonce, host, collector, locale, out.len());
+    if number != 0 {
+        return Built { number, length: 0 };
+    }
+    put_log(nonce, host, collector, locale, out);
+    let length = log_length(nonce, host, collector, locale);
+    Built { number, length }
+}
