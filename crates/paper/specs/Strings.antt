@@ -93,7 +93,7 @@ unfoldable pub bits : Bytes → Bits
 bits [] = []
 bits (b ∷ X) = digits 2 8 b ++ bits X
 
--- the number that a bit string represents, after those of which a is made
+-- the number whose bits are those of a and then X
 unfoldable pub valueFrom : ℕ → Bits → ℕ
 valueFrom a [] = a
 valueFrom a (b ∷ X) = valueFrom (a * 2 + b) X
@@ -117,11 +117,11 @@ unfoldable pub join : ℕ → (ℕ → Bytes) → Bytes
 join zero f = []
 join (suc m) f = join m f ++ f (suc m)
 
--- f 0, f 1, … f (n - 1), counted from i
+-- the n entries f i, f (i + 1), …
 abbrev pub tabFrom : ℕ → ℕ → (ℕ → ℕ) → List ℕ
 tabFrom i zero f = []
 tabFrom i (suc n) f = f i ∷ tabFrom (suc i) n f
 
--- the n entries f 0, f 1, … f (n - 1)
+-- the n entries f 0, f 1, …
 abbrev pub tab : ℕ → (ℕ → ℕ) → List ℕ
 tab n f = tabFrom 0 n f
