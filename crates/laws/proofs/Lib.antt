@@ -23,6 +23,7 @@ pub mod Hash
 -- AEZ-tiny and AEZ-core, both ways
 pub mod Feistel
 pub mod Tiny
+pub mod HalfBytes
 pub mod CoreParts
 pub mod CoreBlocks
 pub mod CoreResult

@@ -29,11 +29,11 @@ module _ (f : ℕ → ℕ → ℕ) (b : ℕ) (keeps : (x y : ℕ) → x < 2 ^ b 
       let r : Digits b (length X) (zip f X Y) = zip-all X Y (record { len = refl; low = p .low .1 }) (record { len = omega arith; low = q .low .1 }) in
       record { len = ap suc (r .len); low = (keeps x y (p .low .0) (q .low .0), r .low) }
 
-  zip-digits : {n : ℕ} {X Y : List ℕ} → Digits b n X → Digits b n Y → Digits b n (zip f X Y)
+  pub zip-digits : {n : ℕ} {X Y : List ℕ} → Digits b n X → Digits b n Y → Digits b n (zip f X Y)
   zip-digits {X = X} {Y = Y} p q = as-digits (p .len) (zip-all X Y (as-digits (sym (p .len)) p) (as-digits (sym (p .len)) q))
 
 -- no bits of Y are added to X
-⊕-and-zeros : (k : ℕ) (X Y : Bits) → length X ≤ k → length X ≤ length Y → X ⊕ (Y and replicate k 0) ≡ X
+pub ⊕-and-zeros : (k : ℕ) (X Y : Bits) → length X ≤ k → length X ≤ length Y → X ⊕ (Y and replicate k 0) ≡ X
 unfolding _⊕_ _and_ zip
 ⊕-and-zeros k [] Y h g = refl
 ⊕-and-zeros k (x ∷ X) [] h g = absurd (not-suc-le-zero g)

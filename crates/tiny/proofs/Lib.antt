@@ -1,0 +1,5 @@
+mod Filling
+mod FirstByte
+mod Indices
+mod Turns
+mod Keys

@@ -1,0 +1,58 @@
+-- `tiny::e_of_turn` meets its contract.
+use mathlib.Core.Path.{ap, ap₂, _∙_}
+use Prim.Native.Nat.{_*_}
+use borrow.Author.Needs.{needs}
+use Rattle.paper.specs.Strings.{Bytes, _⊕_}
+use Rattle.paper.specs.Figure6.{row, E}
+use Rattle.paper.specs.Figure5.{tinyIndex}
+use Rattle.laws.proofs.HalfBytes.{wholeBytes, halfE}
+use Rattle.tbc.specs.Meaning.{blocks}
+use Rattle.tiny.proofs.Indices.{defined, at-pair}
+use Rattle.tiny.proofs.e_of_turn.Statement.{statement}
+use Rattle.tiny.proofs.e_of_turn.Tie as tie
+
+pair-for-requires : tie.Need-pair-for-requires
+pair-for-requires c κs = search needs
+
+pad-requires : tie.Need-pad-requires
+pad-requires c κs = search needs
+
+pack-requires : tie.Need-pack-requires
+pack-requires c κs = search needs
+
+number-requires : tie.Need-number-requires
+number-requires c κs = search needs
+
+xor-requires : tie.Need-xor-requires
+xor-requires c κs = search needs
+
+xor-requires-2 : tie.Need-xor-requires-2
+xor-requires-2 c κs = search needs
+
+e-requires : tie.Need-e-requires
+e-requires c κs =
+    let a = c .before .before .before .before .before .before .args in
+    defined _ (8 * a .n) (c .before .before .before .before .before .pair-for .ensures)
+
+returns : tie.Need-returns
+unfolding halfE
+returns c =
+    let a = c .before .before .before .before .before .before .before .args in
+    let x = c .before .before .before .before .pack .ensures ∙ ap wholeBytes (c .before .before .before .before .before .pad .ensures) in
+    let y = c .before .xor2 .ensures ∙ ap (λ (Y : Bytes). a .delta ⊕ Y) (c .before .before .xor .ensures ∙ ap₂ _⊕_ x (c .before .before .before .number .ensures)) in
+    c .e .ensures
+    ∙ at-pair _ (8 * a .n) (c .before .before .before .before .before .before .pair-for .ensures) (blocks (a .k)) _
+    ∙ ap (E (blocks (a .k)) (row 0) (tinyIndex (8 * a .n))) y
+
+pub e-of-turn-spec : {M : Type 1} → statement M
+e-of-turn-spec =
+    tie.close
+    (tie.spec
+    pair-for-requires
+    pad-requires
+    pack-requires
+    number-requires
+    xor-requires
+    xor-requires-2
+    e-requires
+    returns)

@@ -1,0 +1,61 @@
+-- `tiny::encipher` meets its contract.
+use mathlib.Core.Path.{refl, ap, sym, _∙_}
+use Prim.Native.Nat.{ℕ}
+use native.Mathlib.Omega.{arith}
+use borrow.Author.Needs.{needs}
+use lib.ListN.{length}
+use Rattle.paper.specs.Strings.{Bytes, Digits, Block}
+use Rattle.paper.specs.Figure6.{E}
+use Rattle.laws.proofs.Digits.{below-of}
+use Rattle.laws.proofs.HalfBytes.{lastBytes, encipherTiny-halfBytes}
+use Rattle.laws.proofs.KeyBlocks.{E-block}
+use Rattle.block.proofs.Arrays.{array-bytes}
+use Rattle.tbc.specs.Meaning.{blocks}
+use Rattle.tiny.proofs.Turns.{up-all}
+use Rattle.tiny.proofs.Keys.{key-bytes}
+use Rattle.tiny.proofs.encipher.Statement.{statement}
+use Rattle.tiny.proofs.encipher.Tie as tie
+
+halves-of-requires : tie.Need-halves-of-requires
+halves-of-requires c κs = search needs
+
+turns-up-requires : tie.Need-turns-up-requires
+turns-up-requires c κs = search needs
+
+put-joined-requires : tie.Need-put-joined-requires
+put-joined-requires c κs = search needs
+
+last-step-requires : tie.Need-last-step-requires
+last-step-requires c κs = search needs
+
+same-length : tie.Need-same-length
+same-length c = search needs
+
+returns : tie.Need-returns
+returns c =
+    let start = c .before .before .before .before .before .before .before .before .before .before .before .before in
+    let a = start .args in
+    let M : Bytes = a .s .now in
+    let n : ℕ = length M in
+    let f = E (blocks (a .k)) in
+    let key = E-block (key-bytes (a .k) _ (start .good .0)) in
+    let block : Block (a .delta) = array-bytes 16 _ _ (start .good .1 .0) in
+    let known = c .before .before .before .before .before .before .before .before .before .before .before .slice-known .given in
+    let M-bytes : Digits 8 n M = record { len = refl; low = below-of 256 M (λ i h. omega (arith, known i)) } in
+    let both = c .before .before .before .before .before .before .before .before .before .halves-of in
+    let t = c .before .before .before .before .before .before .before .before .turns-up in
+    let turned = up-all f (a .delta) n (both .result) (t .result) refl refl (both .ensures) (t .ensures) (c .before .before .before .before .before .before .put-joined .ensures) in
+    c .before .before .last-step .ensures
+    ∙ ap (lastBytes f (a .delta)) turned
+    ∙ sym (encipherTiny-halfBytes f (a .delta) block key n M (omega arith) (omega arith) M-bytes)
+
+pub encipher-spec : {M : Type 1} → statement M
+encipher-spec =
+    tie.close
+    (tie.spec
+    halves-of-requires
+    turns-up-requires
+    put-joined-requires
+    last-step-requires
+    same-length
+    returns)

@@ -1,0 +1,68 @@
+-- `tiny::turns_up` meets its contract. The invariant: t is s after the turns before i.
+use mathlib.Core.Path.{_≡_, ap, sym, _∙_}
+use Prim.Native.Nat.{ℕ, _-_, _*_, _≤_}
+use native.Mathlib.Omega.{arith}
+use borrow.Author.Needs.{needs}
+use Rattle.paper.specs.Figure6.{E}
+use Rattle.paper.specs.Figure5.{tinyIndex}
+use Rattle.laws.proofs.HalfBytes.{halfTurn, halfTurnsUp}
+use Rattle.tbc.specs.Meaning.{blocks}
+use Rattle.tiny.specs.Firsts.{firsts}
+use Rattle.tiny.proofs.Turns.{up-none, up-more}
+use Rattle.tiny.proofs.turns_up.Statement.{statement}
+use Rattle.tiny.proofs.turns_up.Tie as tie
+
+abbrev Inv-loop : tie.InvT-loop
+Inv-loop k delta n count t₀ i₀ t i = (i ≤ count) × (firsts n t ≡ halfTurnsUp (E (blocks k)) delta n (tinyIndex (8 * n)) i (firsts n t₀))
+
+abbrev μ-loop : tie.MeasureT-loop
+μ-loop k delta n count t₀ i₀ t i = count - i
+
+rounds-requires : tie.Need-rounds-requires Inv-loop μ-loop
+rounds-requires c κs = search needs
+
+loop-holds : tie.Need-loop-holds Inv-loop μ-loop
+loop-holds c =
+    let a = c .before .args in
+    (omega arith, sym (up-none (E (blocks (a .k))) (a .delta) (a .n) (tinyIndex (8 * a .n)) (firsts (a .n) (a .s))))
+
+turn-requires : tie.Need-turn-requires Inv-loop μ-loop
+turn-requires c κs = search needs
+
+add-i : tie.Need-add-i Inv-loop μ-loop
+add-i c = search needs
+
+loop-less : tie.Need-loop-less Inv-loop μ-loop
+loop-less c = search needs
+
+loop-again : tie.Need-loop-again Inv-loop μ-loop
+loop-again c =
+    let l = c .before .before .loop in
+    let a = c .before .before .before .before .args in
+    let f = E (blocks (a .k)) in
+    let j : ℕ = tinyIndex (8 * a .n) in (
+      omega arith,
+      c .turn .ensures ∙ ap (halfTurn f (a .delta) (a .n) j (l .i)) (l .inv .1) ∙ sym (up-more f (a .delta) (a .n) j (firsts (a .n) (a .s)) (l .i)),
+    )
+
+returns : tie.Need-returns Inv-loop μ-loop
+returns c =
+    let l = c .before .loop in
+    let a = c .before .before .before .args in
+    let n = c .before .before .rounds in
+    let done : l .i ≡ n .result = omega arith in
+    l .inv .1 ∙ ap (λ (k : ℕ). halfTurnsUp (E (blocks (a .k))) (a .delta) (a .n) (tinyIndex (8 * a .n)) k (firsts (a .n) (a .s))) (done ∙ n .ensures)
+
+pub turns-up-spec : {M : Type 1} → statement M
+turns-up-spec =
+    tie.close
+    (tie.spec
+    Inv-loop
+    μ-loop
+    rounds-requires
+    loop-holds
+    turn-requires
+    add-i
+    loop-less
+    loop-again
+    returns)
