@@ -1,5 +1,6 @@
 mod Filling
 mod FirstByte
 mod Indices
-mod Turns
+mod AllTurns
 mod Keys
+pub mod Composes

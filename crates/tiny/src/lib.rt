@@ -9,7 +9,7 @@ ghost use Rattle.paper.specs.Figure6.{E};
 ghost use Rattle.paper.specs.Figure5.{halves, joined, tinyRounds, tinyIndex, encipherTiny, decipherTiny};
 ghost use Rattle.laws.proofs.HalfBytes.{halfBytes, byteOf, wholeBytes, half10*, halfE, halfTurn, halfTurnsUp, halfTurnsDown, lastBytes};
 ghost use Rattle.tbc.specs.Meaning.{blocks, pair};
-ghost use Rattle.tiny.specs.Firsts.{firsts};
+ghost use Rattle.tiny.specs.Firsts.{firsts, halfTurns};
 
 // L and R.
 struct Halves {
@@ -177,6 +177,17 @@ fn turns_down(k: tbc::Key, delta: [u8; 16], n: usize, s: Halves) -> Halves
     t
 }
 
+// Line 215: the turns for n bytes, counted down when deciphering.
+fn turns(k: tbc::Key, delta: [u8; 16], n: usize, down: bool, s: Halves) -> Halves
+    requires { ⌜ n ≤ 31 ⌝ }
+    ensures { λ t. ⌜ firsts n t ≡ halfTurns down (E (blocks k)) delta n (firsts n s) ⌝ }
+{
+    if down {
+        return turns_down(k, delta, n, s);
+    }
+    turns_up(k, delta, n, s)
+}
+
 // Line 214: L and R of s.
 fn halves_of(s: &[u8]) -> Halves
     requires { ⌜ length (now s) ≤ 31 ⌝ }
@@ -253,7 +264,7 @@ pub fn encipher(k: tbc::Key, delta: [u8; 16], s: &mut [u8])
 {
     let n = s.len();
     let both = halves_of(s);
-    let t = turns_up(k, delta, n, both);
+    let t = turns(k, delta, n, false, both);
     put_joined(t, s);
     last_step(k, delta, s);
 }
@@ -266,6 +277,6 @@ pub fn decipher(k: tbc::Key, delta: [u8; 16], s: &mut [u8])
     let n = s.len();
     last_step(k, delta, s);
     let both = halves_of(s);
-    let t = turns_down(k, delta, n, both);
+    let t = turns(k, delta, n, true, both);
     put_joined(t, s);
 }

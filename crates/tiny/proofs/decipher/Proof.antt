@@ -11,7 +11,7 @@ use Rattle.laws.proofs.HalfBytes.{decipherTiny-halfBytes, lastBytes-digits}
 use Rattle.laws.proofs.KeyBlocks.{E-block}
 use Rattle.block.proofs.Arrays.{array-bytes}
 use Rattle.tbc.specs.Meaning.{blocks}
-use Rattle.tiny.proofs.Turns.{down-all}
+use Rattle.tiny.proofs.AllTurns.{down-all}
 use Rattle.tiny.proofs.Keys.{key-bytes}
 use Rattle.tiny.proofs.decipher.Statement.{statement}
 use Rattle.tiny.proofs.decipher.Tie as tie
@@ -22,8 +22,8 @@ last-step-requires c κs = search needs
 halves-of-requires : tie.Need-halves-of-requires
 halves-of-requires c κs = search needs
 
-turns-down-requires : tie.Need-turns-down-requires
-turns-down-requires c κs = search needs
+turns-requires : tie.Need-turns-requires
+turns-requires c κs = search needs
 
 put-joined-requires : tie.Need-put-joined-requires
 put-joined-requires c κs = search needs
@@ -45,7 +45,7 @@ returns c =
     let last = c .before .before .before .before .before .before .before .before .before .last-step .ensures in
     let long = ap length last ∙ lastBytes-digits f (a .delta) block key n (omega arith) M-bytes .len in
     let both = c .before .before .before .before .before .halves-of in
-    let t = c .before .before .before .before .turns-down in
+    let t = c .before .before .before .before .turns in
     down-all f (a .delta) n (both .result) (t .result) last long (both .ensures) (t .ensures) (c .before .before .put-joined .ensures)
     ∙ sym (decipherTiny-halfBytes f (a .delta) block key n M (omega arith) (omega arith) M-bytes)
 
@@ -55,7 +55,7 @@ decipher-spec =
     (tie.spec
     last-step-requires
     halves-of-requires
-    turns-down-requires
+    turns-requires
     put-joined-requires
     same-length
     returns)

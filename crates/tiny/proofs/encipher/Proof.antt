@@ -11,7 +11,7 @@ use Rattle.laws.proofs.HalfBytes.{lastBytes, encipherTiny-halfBytes}
 use Rattle.laws.proofs.KeyBlocks.{E-block}
 use Rattle.block.proofs.Arrays.{array-bytes}
 use Rattle.tbc.specs.Meaning.{blocks}
-use Rattle.tiny.proofs.Turns.{up-all}
+use Rattle.tiny.proofs.AllTurns.{up-all}
 use Rattle.tiny.proofs.Keys.{key-bytes}
 use Rattle.tiny.proofs.encipher.Statement.{statement}
 use Rattle.tiny.proofs.encipher.Tie as tie
@@ -19,8 +19,8 @@ use Rattle.tiny.proofs.encipher.Tie as tie
 halves-of-requires : tie.Need-halves-of-requires
 halves-of-requires c κs = search needs
 
-turns-up-requires : tie.Need-turns-up-requires
-turns-up-requires c κs = search needs
+turns-requires : tie.Need-turns-requires
+turns-requires c κs = search needs
 
 put-joined-requires : tie.Need-put-joined-requires
 put-joined-requires c κs = search needs
@@ -43,7 +43,7 @@ returns c =
     let known = c .before .before .before .before .before .before .before .before .before .before .before .slice-known .given in
     let M-bytes : Digits 8 n M = record { len = refl; low = below-of 256 M (λ i h. omega (arith, known i)) } in
     let both = c .before .before .before .before .before .before .before .before .before .halves-of in
-    let t = c .before .before .before .before .before .before .before .before .turns-up in
+    let t = c .before .before .before .before .before .before .before .before .turns in
     let turned = up-all f (a .delta) n (both .result) (t .result) refl refl (both .ensures) (t .ensures) (c .before .before .before .before .before .before .put-joined .ensures) in
     c .before .before .last-step .ensures
     ∙ ap (lastBytes f (a .delta)) turned
@@ -54,7 +54,7 @@ encipher-spec =
     tie.close
     (tie.spec
     halves-of-requires
-    turns-up-requires
+    turns-requires
     put-joined-requires
     last-step-requires
     same-length

@@ -8,7 +8,7 @@ use Rattle.paper.specs.Figure5.{tinyIndex}
 use Rattle.laws.proofs.HalfBytes.{halfTurnsDown}
 use Rattle.tbc.specs.Meaning.{blocks}
 use Rattle.tiny.specs.Firsts.{firsts}
-use Rattle.tiny.proofs.Turns.{down-none, down-more}
+use Rattle.tiny.proofs.AllTurns.{down-none, down-more}
 use Rattle.tiny.proofs.turns_down.Statement.{statement}
 use Rattle.tiny.proofs.turns_down.Tie as tie
 

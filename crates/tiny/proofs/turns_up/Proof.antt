@@ -8,7 +8,7 @@ use Rattle.paper.specs.Figure5.{tinyIndex}
 use Rattle.laws.proofs.HalfBytes.{halfTurn, halfTurnsUp}
 use Rattle.tbc.specs.Meaning.{blocks}
 use Rattle.tiny.specs.Firsts.{firsts}
-use Rattle.tiny.proofs.Turns.{up-none, up-more}
+use Rattle.tiny.proofs.AllTurns.{up-none, up-more}
 use Rattle.tiny.proofs.turns_up.Statement.{statement}
 use Rattle.tiny.proofs.turns_up.Tie as tie
 

@@ -1,0 +1,13 @@
+mod Rows
+mod Stores
+mod UvParts
+mod Masks
+mod Passes
+mod MaskedParts
+mod Lengths
+mod Joined
+mod Parts
+mod CorePairs
+mod CoreUv
+mod CoreWhole
+pub mod Composes

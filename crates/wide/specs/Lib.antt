@@ -1,0 +1,4 @@
+pub mod Pairs
+pub mod Uv
+pub mod Ways
+pub mod Ends

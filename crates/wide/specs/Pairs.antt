@@ -1,0 +1,46 @@
+-- Lines 226, 232 and 233 of Figure 5 for one pair of blocks, which stand after each other in P.
+use mathlib.Core.List.{_++_}
+use Prim.Native.Nat.{ℕ, _-_, _*_}
+use lib.ListN.{length, take, drop}
+use Rattle.paper.specs.Strings.{Bytes, _⊕_, sum, join}
+use Rattle.paper.specs.Figure6.{row, BlockFunction}
+use Rattle.paper.specs.Figure5.{pairs}
+
+-- 226: W_i and X_i, of M_i and M′_i
+module _ (E : BlockFunction) (i : ℕ) (P : Bytes) where
+  unfoldable pub firstW : Bytes
+  firstW = take 16 P ⊕ E (row 1) i (take 16 (drop 16 P))
+
+  unfoldable pub firstX : Bytes
+  firstX = take 16 (drop 16 P) ⊕ E (row 0) 0 firstW
+
+  abbrev pub firstPair : Bytes
+  firstPair = firstW ++ firstX
+
+-- 232, 233: Y_i, Z_i, C′_i and C_i, of W_i and X_i and the sum S
+module _ (E : BlockFunction) (S : Bytes) (i : ℕ) (P : Bytes) where
+  unfoldable pub secondY : Bytes
+  secondY = take 16 P ⊕ E (row 2) i S
+
+  unfoldable pub secondZ : Bytes
+  secondZ = take 16 (drop 16 P) ⊕ E (row 2) i S
+
+  unfoldable pub secondC′ : Bytes
+  secondC′ = secondY ⊕ E (row 0) 0 secondZ
+
+  unfoldable pub secondC : Bytes
+  secondC = secondZ ⊕ E (row 1) i secondC′
+
+  abbrev pub secondPair : Bytes
+  secondPair = secondC ++ secondC′
+
+-- the i-th pair of a string, counted from 1
+abbrev pub pairAt : Bytes → ℕ → Bytes
+pairAt M i = take 32 (drop (32 * (i - 1)) M)
+
+-- the sum of what a function gives for each pair of M, and M with each pair replaced by what a function gives for it
+abbrev pub pairSum : (ℕ → Bytes → Bytes) → Bytes → Bytes
+pairSum f M = sum (pairs (length M)) (λ i. f i (pairAt M i))
+
+abbrev pub paired : (ℕ → Bytes → Bytes) → Bytes → Bytes
+paired f M = join (pairs (length M)) (λ i. f i (pairAt M i)) ++ drop (32 * pairs (length M)) M
