@@ -1,5 +1,5 @@
 -- Five values of AEZ, computed from the definitions. The key is 00 01 .. 2f, the header strings are 01, "n7", no bytes and "de".
--- Two programs written apart from each other give the first four; one of them gives the fifth, which has a pair of blocks.
+-- Two programs written apart from each other give the first four. The fifth, which has a pair of blocks, is weaker: the program that gives it is by the hand that wrote the definitions.
 use mathlib.Core.List.{List, [], _∷_}
 use mathlib.Core.Path.{_≡_, refl}
 use Rattle.paper.specs.Strings.{Bytes, tab, zip, _⊕_, _or_, _and_, zeroFill, bits10*, pad10*, digits, bits, valueFrom, bytesOf, bytes, sum, join}
