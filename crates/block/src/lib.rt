@@ -134,3 +134,15 @@ pub fn store(s: &mut [u8], at: usize, b: [u8; 16])
         i += 1;
     }
 }
+
+// The bytes t put at a place of s, and every other byte of s kept.
+pub fn copy(s: &mut [u8], at: usize, t: &[u8])
+    requires { ⌜ at + length (now t) ≤ length (now s) ⌝ }
+    ensures { λ _. ⌜ now (s .exit) ≡ take at (now (s .entry)) ++ now (t .entry) ++ drop (at + length (now (t .entry))) (now (s .entry)) ⌝ }
+{
+    let mut i: usize = 0;
+    while i < t.len() {
+        s[at + i] = t[i];
+        i += 1;
+    }
+}

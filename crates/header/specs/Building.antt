@@ -6,10 +6,10 @@ use lib.Dec.{eqb, ltb}
 use lib.ListN.{length, take, drop}
 use Rattle.paper.specs.Strings.{Bytes, if_then_else_}
 use Rattle.paper.specs.Document01.{Outcome, longestString, logHeader}
-use Rattle.header.specs.declared.Built.{Built}
+use Rattle.header.specs.declared.Answer.{Answer}
 
 -- what a call returned, and the output that it left
-abbrev pub outcome : Built → Bytes → Outcome
+abbrev pub outcome : Answer → Bytes → Outcome
 outcome r out = record { number = r .number; size = r .length; output = out }
 
 -- an item is longer than a string may be

@@ -82,7 +82,7 @@ pub fn read(h: &[u8]) -> Reading
 }
 
 // An answer of document 01, and the length of what was written.
-pub struct Built {
+pub struct Answer {
     pub number: u32,
     pub length: usize,
 }
@@ -151,18 +151,6 @@ fn log_length(nonce: &[u8], host: &[u8], collector: &[u8], locale: &[u8]) -> usi
     1 + always + optional_room(collector) + optional_room(locale)
 }
 
-// The bytes s put at a place of out.
-fn copy(out: &mut [u8], at: usize, s: &[u8])
-    requires { ⌜ at + length (now s) ≤ length (now out) ⌝ }
-    ensures { λ _. ⌜ now (out .exit) ≡ placed at (now (s .entry)) (now (out .entry)) ⌝ }
-{
-    let mut i: usize = 0;
-    while i < s.len() {
-        out[at + i] = s[i];
-        i += 1;
-    }
-}
-
 // A string put at a place of out with its length in front, high byte first. The place after it is returned.
 fn put(out: &mut [u8], at: usize, s: &[u8]) -> usize
     requires { ⌜ at + 2 + length (now s) ≤ length (now out) ⌝ }
@@ -171,7 +159,7 @@ fn put(out: &mut [u8], at: usize, s: &[u8]) -> usize
     let size = s.len();
     out[at] = (size / 256 % 256) as u8;
     out[at + 1] = (size % 256) as u8;
-    copy(out, at + 2, s);
+    block::copy(out, at + 2, s);
     at + 2 + size
 }
 
@@ -218,14 +206,14 @@ pub fn log_header(
     collector: &[u8],
     locale: &[u8],
     out: &mut [u8],
-) -> Built
+) -> Answer
     ensures { λ r. ⌜ outcome r (now (out .exit)) ≡ buildingLogHeader (now (nonce .entry)) (now (host .entry)) (now (collector .entry)) (now (locale .entry)) (now (out .entry)) ⌝ }
 {
     let number = settled(nonce, host, collector, locale, out.len());
     if number != 0 {
-        return Built { number, length: 0 };
+        return Answer { number, length: 0 };
     }
     put_log(nonce, host, collector, locale, out);
     let length = log_length(nonce, host, collector, locale);
-    Built { number, length }
+    Answer { number, length }
 }
