@@ -1,0 +1,5 @@
+mod Branches
+mod Parts
+mod Same
+mod Settles
+mod Whole

@@ -1,0 +1,20 @@
+-- `aez::aez_seal` meets its contract.
+use mathlib.Core.Path.{_≡_, ap}
+use borrow.Author.Needs.{needs}
+use Rattle.paper.specs.Document01.{Outcome}
+use Rattle.aez.proofs.aez_seal.Statement.{statement}
+use Rattle.aez.proofs.aez_seal.Tie as tie
+
+seal-requires : tie.Need-seal-requires
+seal-requires c κs = search needs
+
+same-length : tie.Need-same-length
+same-length c = search needs
+
+returns : tie.Need-returns
+returns c =
+    let e = c .before .before .seal .ensures in
+    (ap (λ (o : Outcome). o .number) e, ap (λ (o : Outcome). o .output) e)
+
+pub aez-seal-spec : {M : Type 1} → statement M
+aez-seal-spec = tie.close (tie.spec seal-requires same-length returns)
