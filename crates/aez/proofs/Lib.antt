@@ -3,3 +3,5 @@ mod Parts
 mod Same
 mod Settles
 mod Whole
+pub mod Determined
+pub mod Demands

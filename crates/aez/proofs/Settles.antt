@@ -202,3 +202,18 @@ module _ (key header : Bytes) (stretch : ℕ) where
       go zero false false true s p q r e = absurd (omega (arith, e))
       go zero false false false s p q r e =
           record { common = passed s; within = ltb-false longestSealed sealed p; least = ltb-false sealed stretch q; has-room = ltb-false out sealed r }
+
+  -- 7 is none of the tests' numbers
+  pub opening-most : (sealed out : ℕ) → settledOpening key header stretch sealed out ≤ 6
+  unfolding settledOpening settledCommon
+  opening-most sealed out =
+      go (eqb (length key) 48) (ltb longestStretch stretch) (readHeader header) (ltb longestSealed sealed) (ltb sealed stretch) (ltb out sealed)
+    where
+      go : (a b : Bool) (o : Option (List Bytes)) (c d e : Bool) → first (if not a then 1 else if b then 2 else unread o) (rooms c d e) ≤ 6
+      go false b o c d e = omega arith
+      go true true o c d e = omega arith
+      go true false none c d e = omega arith
+      go true false (some ss) true d e = omega arith
+      go true false (some ss) false true e = omega arith
+      go true false (some ss) false false true = omega arith
+      go true false (some ss) false false false = omega arith

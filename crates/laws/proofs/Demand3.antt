@@ -57,6 +57,10 @@ module _ (key header : Bytes) (strings : List Bytes) (stretch : ℕ) (fixed : Fi
   pub sealed-length : (M : Bytes) → Below 256 M → length (sealed M) ≡ length M + stretch
   sealed-length M p = encrypt-bytes (E (keyOf key)) block-function strings stretch hashed prf M p .len
 
+  -- and it is bytes too
+  pub sealed-bytes : (M : Bytes) → Below 256 M → Below 256 (sealed M)
+  sealed-bytes M p = encrypt-bytes (E (keyOf key)) block-function strings stretch hashed prf M p .low
+
   -- a string opens to the text that seals to it
   pub opens-to : (M C : Bytes) → Seals M C → opened C ≡ some M
   opens-to M C s = ap opened (sym (s .to)) ∙ decrypt-encrypt (E (keyOf key)) block-function strings stretch hashed prf M (s .text)

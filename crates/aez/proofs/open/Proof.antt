@@ -67,7 +67,7 @@ sub-t19 c =
     let a = c .before .before .before .before .before .before .before .before .before .before .before .before .before .before .args in
     let n = c .before .before .before .before .before .before .before .before .before .settled-opening in
     let fits = opening-fits (a .key .now) (a .header .now) (a .stretch .0) (length (a .sealed .now)) (length (a .out .now)) (n .result) (n .ensures) (c .before .before .before .before .before .before .before .before .if1 .left) in
-    fits .least
+    omega (arith, fits .least)
 
 same-length : tie.Need-same-length
 same-length c = search needs

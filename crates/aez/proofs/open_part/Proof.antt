@@ -29,7 +29,7 @@ part-out-end c =
     let size : n ≡ opening (a .key .now) (a .header .now) (a .stretch .0) (a .sealed .now) (a .out .now) .size = ap (λ (o : Outcome). o .size) e in
     let output : length last ≡ length (opening (a .key .now) (a .header .now) (a .stretch .0) (a .sealed .now) (a .out .now) .output) = ap (λ (o : Outcome). length (o .output)) e in
     let fits : n ≤ length last = omega (arith, size, output, opening-size (a .key .now) (a .header .now) (a .stretch .0) (a .sealed .now) (a .out .now)) in
-    fits
+    omega (arith, fits)
 
 returns : tie.Need-returns
 unfolding openedPart
