@@ -1,0 +1,193 @@
+//! Seals and opens log records with AEZ, by code that is proved.
+//!
+//! The work is done by a static library written in Rattle. It is proved to give
+//! the bytes that the AEZ paper defines, and to answer every call: this crate
+//! adds Rust's types to it and nothing else. No call allocates, and no call
+//! panics.
+//!
+//! A record is sealed under a **key** of 48 bytes, a **header** and a
+//! **stretch**. The header is not secret and travels beside the record; a record
+//! opens only under the header that it was sealed with. The stretch is how many
+//! bytes a sealed string is longer than its text, 0 to 64: a string that nobody
+//! has sealed passes the check with a chance of about one in 256 to the power of
+//! the stretch. At a stretch of 0 there is nothing to check, and every string opens
+//! to some text.
+//!
+//! ```
+//! use jarrovento::{log_header, open, seal, Refusal};
+//!
+//! let key = [7; 48];
+//! let mut header = [0; 64];
+//! let header = log_header(&[1], b"n7", b"", b"de", &mut header)?;
+//!
+//! let mut sealed = [0; 64];
+//! let sealed = seal(&key, header, 4, b"1,204 s", &mut sealed)?;
+//! assert_eq!(sealed.len(), 7 + 4);
+//!
+//! let mut text = [0; 64];
+//! assert_eq!(open(&key, header, 4, sealed, &mut text)?, b"1,204 s");
+//!
+//! // Under another host's header the record does not open.
+//! let mut other = [0; 64];
+//! let other = log_header(&[1], b"n8", b"", b"en", &mut other)?;
+//! assert_eq!(open(&key, other, 4, sealed, &mut text), Err(Refusal::CheckFails));
+//! # Ok::<(), Refusal>(())
+//! ```
+//!
+//! The paper limits the use of one key to 2^48 bytes. No call counts them: that
+//! is the caller's to keep. The static library is for x86-64 Linux.
+
+// Without std, and without alloc, there is no heap to allocate on.
+#![no_std]
+#![deny(missing_docs)]
+#![deny(unsafe_code)]
+
+mod proved;
+mod refusal;
+
+pub use refusal::Refusal;
+
+/// The bytes of a key: the blocks I, J and L, 16 each, in that order.
+pub const KEY_LENGTH: usize = 48;
+
+/// The bytes of the longest sealed string. An output of this length is never
+/// too short, neither for sealing nor for opening.
+pub const LONGEST_SEALED: usize = 65_536;
+
+/// The bytes of the longest log header: four items of 1,024 bytes, each after
+/// its length in two bytes, and their count.
+pub const LONGEST_LOG_HEADER: usize = 1 + 4 * (2 + 1_024);
+
+/// Seals `text`, and hands back the part of `out` that holds the sealed string:
+/// its first `text.len() + stretch` bytes. All later bytes are left unchanged.
+///
+/// # Errors
+///
+/// In this order: [`KeyLength`], [`StretchTooLong`], [`HeaderUnreadable`],
+/// [`TooLong`], [`OutputTooShort`]. After each of them all of `out` is
+/// unchanged.
+///
+/// [`KeyLength`]: Refusal::KeyLength
+/// [`StretchTooLong`]: Refusal::StretchTooLong
+/// [`HeaderUnreadable`]: Refusal::HeaderUnreadable
+/// [`TooLong`]: Refusal::TooLong
+/// [`OutputTooShort`]: Refusal::OutputTooShort
+///
+/// # Examples
+///
+/// ```
+/// use jarrovento::{seal, Refusal};
+///
+/// let key: Vec<u8> = (0..48).collect();
+/// // Four strings: 01, "n7", no bytes, "de".
+/// let header = [4, 0, 1, 1, 0, 2, b'n', b'7', 0, 0, 0, 2, b'd', b'e'];
+///
+/// let mut out = [0xa5; 8];
+/// let sealed = seal(&key, &header, 0, b"hello", &mut out)?;
+/// assert_eq!(sealed, [0xa6, 0x8f, 0xcc, 0x5b, 0x92]);
+/// assert_eq!(out[5..], [0xa5; 3]);
+///
+/// assert_eq!(seal(&key, &header, 4, b"hello", &mut out), Err(Refusal::OutputTooShort));
+/// # Ok::<(), Refusal>(())
+/// ```
+pub fn seal<'a>(
+    key: &[u8],
+    header: &[u8],
+    stretch: u64,
+    text: &[u8],
+    out: &'a mut [u8],
+) -> Result<&'a mut [u8], Refusal> {
+    let length = proved::seal(key, header, stretch, text, out)?;
+    Ok(&mut out[..length])
+}
+
+/// Opens `sealed`, and hands back the part of `out` that holds the text: its
+/// first `sealed.len() - stretch` bytes. As many zero bytes as the stretch
+/// follow it, and all later bytes are left unchanged.
+///
+/// `out` must have room for the sealed string, not for the text alone. An empty
+/// text is `Ok` with an empty slice.
+///
+/// # Errors
+///
+/// In this order: [`KeyLength`], [`StretchTooLong`], [`HeaderUnreadable`],
+/// [`TooLong`], [`ShorterThanStretch`], [`OutputTooShort`]; after each of them
+/// all of `out` is unchanged. Then [`CheckFails`], where no text seals to
+/// `sealed` under this key, header and stretch: the first `sealed.len()` bytes of
+/// `out` are then zero, and all later ones unchanged.
+///
+/// [`KeyLength`]: Refusal::KeyLength
+/// [`StretchTooLong`]: Refusal::StretchTooLong
+/// [`HeaderUnreadable`]: Refusal::HeaderUnreadable
+/// [`TooLong`]: Refusal::TooLong
+/// [`ShorterThanStretch`]: Refusal::ShorterThanStretch
+/// [`OutputTooShort`]: Refusal::OutputTooShort
+/// [`CheckFails`]: Refusal::CheckFails
+///
+/// # Examples
+///
+/// ```
+/// use jarrovento::{open, Refusal};
+///
+/// let key: Vec<u8> = (0..48).collect();
+/// let header = [4, 0, 1, 1, 0, 2, b'n', b'7', 0, 0, 0, 2, b'd', b'e'];
+/// let mut out = [0xa5; 8];
+///
+/// let mut sealed = [0xa6, 0x8f, 0xcc, 0x5b, 0x92];
+/// assert_eq!(open(&key, &header, 0, &sealed, &mut out)?, b"hello");
+///
+/// // With a stretch of 0 a damaged string opens too, to some other text.
+/// sealed[0] ^= 1;
+/// assert_ne!(open(&key, &header, 0, &sealed, &mut out)?, b"hello");
+///
+/// // The string was not sealed with a stretch of 4: the text is not shown.
+/// assert_eq!(open(&key, &header, 4, &sealed, &mut out), Err(Refusal::CheckFails));
+/// assert_eq!(out, [0, 0, 0, 0, 0, 0xa5, 0xa5, 0xa5]);
+/// # Ok::<(), Refusal>(())
+/// ```
+pub fn open<'a>(
+    key: &[u8],
+    header: &[u8],
+    stretch: u64,
+    sealed: &[u8],
+    out: &'a mut [u8],
+) -> Result<&'a mut [u8], Refusal> {
+    let length = proved::open(key, header, stretch, sealed, out)?;
+    Ok(&mut out[..length])
+}
+
+/// Builds the header of a log, and hands back the part of `out` that holds it,
+/// its first bytes. All later bytes are left unchanged.
+///
+/// Nonce and host are always written; collector and locale are left out when
+/// they have no bytes.
+///
+/// # Errors
+///
+/// In this order: [`ItemTooLong`](Refusal::ItemTooLong),
+/// [`OutputTooShort`](Refusal::OutputTooShort). After each of them all of `out`
+/// is unchanged. An output of [`LONGEST_LOG_HEADER`] bytes is never too short.
+///
+/// # Examples
+///
+/// ```
+/// use jarrovento::{log_header, Refusal};
+///
+/// let mut out = [0; 12];
+/// let header = log_header(&[1], b"n7", b"", b"de", &mut out)?;
+/// assert_eq!(header, [3, 0, 1, 1, 0, 2, b'n', b'7', 0, 2, b'd', b'e']);
+///
+/// assert_eq!(log_header(&[1], b"n7", b"", b"de", &mut out[..11]), Err(Refusal::OutputTooShort));
+/// assert_eq!(log_header(&[1], &[b'n'; 1025], b"", b"de", &mut []), Err(Refusal::ItemTooLong));
+/// # Ok::<(), Refusal>(())
+/// ```
+pub fn log_header<'a>(
+    nonce: &[u8],
+    host: &[u8],
+    collector: &[u8],
+    locale: &[u8],
+    out: &'a mut [u8],
+) -> Result<&'a mut [u8], Refusal> {
+    let length = proved::log_header(nonce, host, collector, locale, out)?;
+    Ok(&mut out[..length])
+}

@@ -1,0 +1,163 @@
+//! The functions of the proved library, and the only unsafe code of this crate.
+//!
+//! An exported function takes each slice as a pointer and a length, and returns
+//! document 01's answer number. It has no `requires`, so every call is sound
+//! whose pointers and lengths are those of Rust slices: a pointer that is not
+//! null, and as many bytes behind it as the length says. It reads its inputs and
+//! reads and writes `out` within these lengths, during the call alone. `out` is
+//! the one `&mut` among them, so no input shares a byte with it.
+//!
+//! That the declarations below are the functions that the library exports is
+//! checked by no compiler. Names, order and widths stand in `crates/aez/src/lib.rt`.
+#![allow(unsafe_code)]
+
+use crate::Refusal;
+
+unsafe extern "C" {
+    fn aez_seal(
+        key: *const u8,
+        key_len: usize,
+        header: *const u8,
+        header_len: usize,
+        stretch: u64,
+        text: *const u8,
+        text_len: usize,
+        out: *mut u8,
+        out_len: usize,
+    ) -> u32;
+
+    fn aez_open(
+        key: *const u8,
+        key_len: usize,
+        header: *const u8,
+        header_len: usize,
+        stretch: u64,
+        sealed: *const u8,
+        sealed_len: usize,
+        out: *mut u8,
+        out_len: usize,
+    ) -> u32;
+
+    fn aez_log_header(
+        nonce: *const u8,
+        nonce_len: usize,
+        host: *const u8,
+        host_len: usize,
+        collector: *const u8,
+        collector_len: usize,
+        locale: *const u8,
+        locale_len: usize,
+        out: *mut u8,
+        out_len: usize,
+    ) -> u32;
+}
+
+/// Seals into `out`, and returns the length of the sealed string.
+pub fn seal(
+    key: &[u8],
+    header: &[u8],
+    stretch: u64,
+    text: &[u8],
+    out: &mut [u8],
+) -> Result<usize, Refusal> {
+    // SAFETY: four slices, each passed as its own pointer and length; `out` is
+    // the `&mut`.
+    let number = unsafe {
+        aez_seal(
+            key.as_ptr(),
+            key.len(),
+            header.as_ptr(),
+            header.len(),
+            stretch,
+            text.as_ptr(),
+            text.len(),
+            out.as_mut_ptr(),
+            out.len(),
+        )
+    };
+    done(number)?;
+    // Answer 0: the stretch is at most 64, and the sum is at most out's length.
+    Ok(text.len() + stretch as usize)
+}
+
+/// Opens into `out`, and returns the length of the text.
+pub fn open(
+    key: &[u8],
+    header: &[u8],
+    stretch: u64,
+    sealed: &[u8],
+    out: &mut [u8],
+) -> Result<usize, Refusal> {
+    // SAFETY: four slices, each passed as its own pointer and length; `out` is
+    // the `&mut`.
+    let number = unsafe {
+        aez_open(
+            key.as_ptr(),
+            key.len(),
+            header.as_ptr(),
+            header.len(),
+            stretch,
+            sealed.as_ptr(),
+            sealed.len(),
+            out.as_mut_ptr(),
+            out.len(),
+        )
+    };
+    done(number)?;
+    // Answer 0: the stretch is at most 64 and at most the sealed string's length.
+    Ok(sealed.len() - stretch as usize)
+}
+
+/// Builds a log header in `out`, and returns its length.
+pub fn log_header(
+    nonce: &[u8],
+    host: &[u8],
+    collector: &[u8],
+    locale: &[u8],
+    out: &mut [u8],
+) -> Result<usize, Refusal> {
+    // SAFETY: five slices, each passed as its own pointer and length; `out` is
+    // the `&mut`.
+    let number = unsafe {
+        aez_log_header(
+            nonce.as_ptr(),
+            nonce.len(),
+            host.as_ptr(),
+            host.len(),
+            collector.as_ptr(),
+            collector.len(),
+            locale.as_ptr(),
+            locale.len(),
+            out.as_mut_ptr(),
+            out.len(),
+        )
+    };
+    done(number)?;
+    // Answer 0: no item is above 1,024 bytes.
+    let always = 1 + (2 + nonce.len()) + (2 + host.len());
+    Ok(always + unless_empty(collector) + unless_empty(locale))
+}
+
+/// The bytes that an item takes which is left out where it is empty.
+fn unless_empty(item: &[u8]) -> usize {
+    if item.is_empty() {
+        0
+    } else {
+        2 + item.len()
+    }
+}
+
+/// The answer number as a type.
+///
+/// # Panics
+///
+/// At a number that document 01 does not have. It is proved that there is none.
+fn done(number: u32) -> Result<(), Refusal> {
+    if number == 0 {
+        return Ok(());
+    }
+    let found = Refusal::ALL
+        .into_iter()
+        .find(|refusal| refusal.number() == number);
+    Err(found.unwrap_or_else(|| unreachable!("document 01 has no answer {number}")))
+}

@@ -1,0 +1,126 @@
+//! The safe library against values that are known without it.
+
+#[path = "support/mod.rs"]
+#[allow(dead_code)] // Seeds and damage are the comparison's.
+mod support;
+
+use jarrovento::{log_header, open, seal, Refusal};
+use jarrovento::{KEY_LENGTH, LONGEST_LOG_HEADER, LONGEST_SEALED};
+use support::{counting, four_strings, four_values, hex, pattern, unhex};
+
+#[test]
+fn the_four_values_seal() {
+    for (stretch, text, expected) in four_values() {
+        let mut out = [0; 64];
+        let sealed = seal(&counting(48), &four_strings(), stretch, &text, &mut out).unwrap();
+        assert_eq!(sealed, expected);
+    }
+}
+
+#[test]
+fn the_four_values_open() {
+    for (stretch, text, sealed) in four_values() {
+        let mut out = [0; 64];
+        let opened = open(&counting(48), &four_strings(), stretch, &sealed, &mut out);
+        assert_eq!(opened.unwrap(), text);
+    }
+}
+
+#[test]
+fn document_01_s_log_header() {
+    let mut out = [0; 20];
+    let header = log_header(&[1], b"n7", b"", b"de", &mut out).unwrap();
+    assert_eq!(hex(header), "0300010100026e3700026465");
+}
+
+/// A text that is empty is told from a refusal.
+#[test]
+fn an_empty_text_opens() {
+    let (key, header) = (counting(48), four_strings());
+    let mut out = [0xa5; 4];
+    assert_eq!(open(&key, &header, 0, &[], &mut []), Ok(&mut [][..]));
+    assert_eq!(open(&key, &header, 0, &[], &mut out), Ok(&mut [][..]));
+    assert_eq!(out, [0xa5; 4]);
+}
+
+#[test]
+fn after_opening_zeros_follow_the_text_and_the_rest_is_unchanged() {
+    let sealed = unhex("e3600052f6f4be16f514d7f4fee221ddcf4d71fd5d");
+    let mut out = pattern(30);
+    open(&counting(48), &four_strings(), 16, &sealed, &mut out).unwrap();
+    assert_eq!(out[..5], *b"hello");
+    assert_eq!(out[5..21], [0; 16]);
+    assert_eq!(out[21..], pattern(30)[21..]);
+}
+
+#[test]
+fn after_a_failed_check_the_string_s_length_is_zeros_and_the_rest_unchanged() {
+    let mut sealed = unhex("e3600052f6f4be16f514d7f4fee221ddcf4d71fd5d");
+    sealed[20] ^= 1;
+    let mut out = pattern(30);
+    let opened = open(&counting(48), &four_strings(), 16, &sealed, &mut out);
+    assert_eq!(opened, Err(Refusal::CheckFails));
+    assert_eq!(out[..21], [0; 21]);
+    assert_eq!(out[21..], pattern(30)[21..]);
+}
+
+/// Each refusal of sealing, opening and building, with its number, and with the
+/// output as it was.
+#[test]
+fn refusals_have_their_numbers_and_leave_the_output() {
+    let (key, header) = (counting(48), four_strings());
+    let long = counting(LONGEST_SEALED + 1);
+    let mut out = pattern(20);
+    let answers = [
+        (
+            1,
+            seal(&key[..47], &header, 4, b"text", &mut out).unwrap_err(),
+        ),
+        (2, seal(&key, &header, 65, b"text", &mut out).unwrap_err()),
+        (3, seal(&key, &[17], 4, b"text", &mut out).unwrap_err()),
+        (4, seal(&key, &header, 0, &long, &mut out).unwrap_err()),
+        (5, open(&key, &header, 5, b"text", &mut out).unwrap_err()),
+        (6, seal(&key, &header, 17, b"text", &mut out).unwrap_err()),
+        (
+            6,
+            open(&key, &header, 4, &long[..21], &mut out).unwrap_err(),
+        ),
+        (
+            6,
+            log_header(&key[..11], b"n7", b"", b"de", &mut out).unwrap_err(),
+        ),
+        (
+            8,
+            log_header(&long[..1_025], b"n7", b"", b"de", &mut out).unwrap_err(),
+        ),
+    ];
+    for (number, refusal) in answers {
+        assert_eq!(refusal.number(), number);
+    }
+    assert_eq!(out, pattern(20));
+}
+
+#[test]
+fn the_limits_are_the_library_s() {
+    let header = four_strings();
+    let long = vec![0; LONGEST_SEALED + 1];
+    let mut out = vec![0; LONGEST_SEALED];
+    let key = vec![0; KEY_LENGTH];
+    let sealed = seal(&key, &header, 64, &long[..LONGEST_SEALED - 64], &mut out);
+    assert_eq!(sealed.map(|sealed| sealed.len()), Ok(LONGEST_SEALED));
+    let sealed = seal(&key, &header, 64, &long[..LONGEST_SEALED - 63], &mut out);
+    assert_eq!(sealed, Err(Refusal::TooLong));
+
+    let item = [0; 1_024];
+    let mut out = [0; LONGEST_LOG_HEADER];
+    let header = log_header(&item, &item, &item, &item, &mut out);
+    assert_eq!(header.map(|header| header.len()), Ok(LONGEST_LOG_HEADER));
+    let short = log_header(&item, &item, &item, &item, &mut out[1..]);
+    assert_eq!(short, Err(Refusal::OutputTooShort));
+}
+
+#[test]
+fn refusals_are_numbered_from_1_to_8() {
+    let numbers = Refusal::ALL.map(Refusal::number);
+    assert_eq!(numbers, [1, 2, 3, 4, 5, 6, 7, 8]);
+}
