@@ -1,0 +1,36 @@
+//! The C header: a C program that includes it compiles without a warning, links
+//! the library, and gets the known values.
+
+use std::path::Path;
+use std::process::Command;
+
+#[test]
+fn a_c_program_links_the_library() {
+    let package = Path::new(env!("CARGO_MANIFEST_DIR"));
+    let program = Path::new(env!("CARGO_TARGET_TMPDIR")).join("c_header");
+    let compiled = Command::new("cc")
+        .args(["-std=c99", "-Wall", "-Wextra", "-Wpedantic", "-Werror"])
+        .arg("-I")
+        .arg(package.join("include"))
+        .arg(package.join("tests/c_header.c"))
+        .arg(env!("AEZ_LIBRARY"))
+        .arg("-o")
+        .arg(&program)
+        .output()
+        .expect("the C compiler cc starts");
+    let messages = String::from_utf8_lossy(&compiled.stderr);
+    assert!(compiled.status.success(), "{messages}");
+
+    let run = Command::new(&program).output().expect("the program starts");
+    assert!(run.status.success(), "{}", run.status);
+    let expected = "\
+seal 0 a68fcc5b92
+seal 0 e3600052f6f4be16f514d7f4fee221ddcf4d71fd5d
+open 0 68656c6c6f00000000000000000000000000000000
+log_header 0 0300010100026e3700026465
+open 7 000000000000000000000000000000000000000000
+seal 2 
+log_header 6 
+";
+    assert_eq!(String::from_utf8_lossy(&run.stdout), expected);
+}
