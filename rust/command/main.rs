@@ -1,0 +1,132 @@
+//! The command `jarrovento`: log headers, sealing and opening from the shell.
+//! `help.txt` says what it does.
+
+mod arguments;
+mod bytes;
+mod demo;
+mod failure;
+
+use std::env;
+use std::ffi::OsString;
+use std::io::Write;
+use std::os::unix::ffi::OsStrExt;
+use std::process::ExitCode;
+
+use arguments::Arguments;
+use failure::Failure;
+use jarrovento::{Refusal, LONGEST_LOG_HEADER, LONGEST_SEALED};
+
+const HELP: &str = include_str!("help.txt");
+
+fn main() -> ExitCode {
+    let words: Vec<OsString> = env::args_os().skip(1).collect();
+    match run(&words) {
+        Ok(()) => ExitCode::SUCCESS,
+        Err(failure) => {
+            // Where standard error is closed too, the exit status is all that is left.
+            let _ = writeln!(std::io::stderr(), "jarrovento: {failure}");
+            ExitCode::from(failure.exit_status())
+        }
+    }
+}
+
+fn run(words: &[OsString]) -> Result<(), Failure> {
+    let Some((command, words)) = words.split_first() else {
+        return Err(Failure::usage("no command"));
+    };
+    if words.first().is_some_and(|word| word == "--help") {
+        return bytes::write(None, HELP.as_bytes());
+    }
+    match command.to_str() {
+        Some("--help") => bytes::write(None, HELP.as_bytes()),
+        Some("header") => header(words),
+        Some("seal") => seal_or_open(words, jarrovento::seal),
+        Some("open") => seal_or_open(words, jarrovento::open),
+        Some("demo") => {
+            Arguments::read(words, &[], &[])?;
+            bytes::write(None, demo::story()?.as_bytes())
+        }
+        _ => Err(Failure::usage(format!(
+            "no such command: {}",
+            command.display()
+        ))),
+    }
+}
+
+fn header(words: &[OsString]) -> Result<(), Failure> {
+    let items = ["--nonce", "--host", "--collector", "--locale", "--out"];
+    let arguments = Arguments::read(words, &items, &["--hex-out"])?;
+    let nonce = bytes::from_hex_argument("--nonce", arguments.required("--nonce")?)?;
+    let host = arguments.required("--host")?.as_bytes();
+    let item = |name| {
+        arguments
+            .value(name)
+            .map_or(&[][..], |value| value.as_bytes())
+    };
+    let mut out = [0; LONGEST_LOG_HEADER];
+    let header = jarrovento::log_header(
+        &nonce,
+        host,
+        item("--collector"),
+        item("--locale"),
+        &mut out,
+    )?;
+    write_result(&arguments, header)
+}
+
+/// The library's `seal` or `open`: they take the same inputs.
+type Call = for<'a> fn(&[u8], &[u8], u64, &[u8], &'a mut [u8]) -> Result<&'a mut [u8], Refusal>;
+
+fn seal_or_open(words: &[OsString], call: Call) -> Result<(), Failure> {
+    let values = [
+        "--key",
+        "--header",
+        "--header-file",
+        "--stretch",
+        "--in",
+        "--out",
+    ];
+    let arguments = Arguments::read(words, &values, &["--hex-in", "--hex-out"])?;
+    let header = header_under(&arguments)?;
+    let stretch = stretch(&arguments)?;
+    let key = bytes::key(bytes::read(Some(arguments.required("--key")?))?);
+    let mut input = bytes::read(arguments.value("--in"))?;
+    if arguments.flag("--hex-in") {
+        input = bytes::from_hex(&input).ok_or(Failure::NotHex)?;
+    }
+    let mut out = vec![0; LONGEST_SEALED];
+    write_result(&arguments, call(&key, &header, stretch, &input, &mut out)?)
+}
+
+/// The header to seal or open under, from one of its two options.
+fn header_under(arguments: &Arguments) -> Result<Vec<u8>, Failure> {
+    match (
+        arguments.value("--header"),
+        arguments.value("--header-file"),
+    ) {
+        (Some(digits), None) => bytes::from_hex_argument("--header", digits),
+        (None, Some(file)) => bytes::read(Some(file)),
+        (None, None) => Err(Failure::usage("--header or --header-file is missing")),
+        (Some(_), Some(_)) => Err(Failure::usage("--header and --header-file are both given")),
+    }
+}
+
+fn stretch(arguments: &Arguments) -> Result<u64, Failure> {
+    let number = arguments.required("--stretch")?;
+    let parsed = number.to_str().and_then(|number| number.parse().ok());
+    parsed.ok_or_else(|| {
+        Failure::usage(format!(
+            "--stretch {} is not a number of bytes",
+            number.display()
+        ))
+    })
+}
+
+fn write_result(arguments: &Arguments, result: &[u8]) -> Result<(), Failure> {
+    let file = arguments.value("--out");
+    if arguments.flag("--hex-out") {
+        let line = bytes::to_hex(result) + "\n";
+        return bytes::write(file, line.as_bytes());
+    }
+    bytes::write(file, result)
+}

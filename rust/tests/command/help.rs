@@ -1,0 +1,93 @@
+//! `--help` and `demo`: what they show is what comes out.
+
+use std::path::Path;
+use std::process::Command;
+
+use jarrovento::Refusal;
+
+use crate::second::document01;
+use crate::support::{counting, header, hex};
+use crate::{done, jarrovento, run};
+
+#[test]
+fn help_names_every_refusal() {
+    let help = jarrovento(&["--help"], b"");
+    done(&help);
+    let text = String::from_utf8(help.stdout).unwrap();
+    for refusal in Refusal::ALL {
+        let line = format!("\n  {}  {}", refusal.number(), refusal.meaning());
+        assert!(text.contains(&line), "{line}");
+    }
+    for command in ["header", "seal", "open", "demo"] {
+        let run = jarrovento(&[command, "--help"], b"");
+        done(&run);
+        assert_eq!(run.stdout, text.as_bytes());
+    }
+}
+
+/// The lines of the help that a shell would run, each with what is shown after it.
+fn shown_use(help: &str) -> Vec<(String, String)> {
+    let mut shown: Vec<(String, String)> = Vec::new();
+    let start = help.find("\n  $ ").expect("a use is shown") + 1;
+    for line in help[start..].lines().take_while(|line| !line.is_empty()) {
+        match (line.strip_prefix("  $ "), shown.last_mut()) {
+            (Some(command), _) => shown.push((command.to_string(), String::new())),
+            (None, Some((command, _))) if command.ends_with('\\') => {
+                command.push('\n');
+                command.push_str(line);
+            }
+            (None, Some((_, output))) => *output += line.trim_start(),
+            (None, None) => unreachable!("the first line is a command"),
+        }
+    }
+    shown
+}
+
+#[test]
+fn the_use_in_the_help_comes_out_as_shown() {
+    let help = String::from_utf8(jarrovento(&["--help"], b"").stdout).unwrap();
+    let shown = shown_use(&help);
+    assert_eq!(shown.len(), 4);
+    let folder = Path::new(env!("CARGO_BIN_EXE_jarrovento"))
+        .parent()
+        .unwrap();
+    for (command, output) in shown {
+        let mut shell = Command::new("sh");
+        shell
+            .args(["-c", &format!("PATH=\"$0:$PATH\"; {{ {command}\n}} 2>&1")])
+            .arg(folder)
+            .current_dir(Path::new(env!("CARGO_MANIFEST_DIR")).join(".."));
+        let run = run(&mut shell, b"");
+        assert_eq!(
+            String::from_utf8_lossy(&run.stdout).trim_end(),
+            output,
+            "{command}"
+        );
+    }
+}
+
+#[test]
+fn the_demo_tells_what_the_second_program_gives() {
+    let demo = jarrovento(&["demo"], b"");
+    done(&demo);
+    let story = String::from_utf8(demo.stdout).unwrap();
+    let key = counting(48);
+    let n7 = header(&[&[1][..], b"n7", b"de"]);
+    let n8 = header(&[&[1][..], b"n8", b"en"]);
+    let (mut sealed, mut bare, mut other) = ([0; 11], [0; 7], [0; 7]);
+    document01::seal(&key, &n7, 4, b"1,204 s", &mut sealed);
+    document01::seal(&key, &n7, 0, b"1,204 s", &mut bare);
+    document01::open(&key, &n8, 0, &bare, &mut other);
+    for line in [
+        format!("  header        {}\n", hex(&n7)),
+        format!("  sealed        {}\n", hex(&sealed)),
+        "  text          1,204 s\n".to_string(),
+        format!("  header        {}\n", hex(&n8)),
+        format!("  answer        {}\n", Refusal::CheckFails),
+        format!("  sealed on n7  {}\n", hex(&bare)),
+        "  opened on n7  1,204 s\n".to_string(),
+        format!("  under n8      {},", hex(&other)),
+    ] {
+        assert!(story.contains(&line), "{line}");
+    }
+}

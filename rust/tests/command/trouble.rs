@@ -1,0 +1,152 @@
+//! Command lines that are wrong, input that is not hex, and files in trouble.
+
+use std::fs::File;
+
+use crate::support::counting;
+use crate::{fails, file, folder, jarrovento, program, words, HEADER};
+
+#[test]
+fn wrong_command_lines() {
+    let key = ["--key", "key"];
+    let header = ["--header", HEADER];
+    let stretch = ["--stretch", "4"];
+    let cases: [(Vec<&str>, &str); 19] = [
+        (vec![], "no command"),
+        (vec!["sale"], "no such command: sale"),
+        (vec!["demo", "more"], "no such option here: more"),
+        (vec!["header", "--key", "key"], "no such option here: --key"),
+        (vec!["header", "--host", "n7"], "--nonce is missing"),
+        (vec!["header", "--nonce", "01"], "--host is missing"),
+        (vec!["header", "--nonce"], "--nonce has no value after it"),
+        (
+            vec!["header", "--nonce", "1", "--host", "n7"],
+            "--nonce is not pairs of hex digits",
+        ),
+        (
+            vec!["header", "--nonce", "+1", "--host", "n7"],
+            "--nonce is not pairs of hex digits",
+        ),
+        (
+            [&["seal"], &header[..], &stretch].concat(),
+            "--key is missing",
+        ),
+        (
+            [&["seal"], &key[..], &stretch].concat(),
+            "--header or --header-file is missing",
+        ),
+        (
+            [&["open"], &key[..], &header].concat(),
+            "--stretch is missing",
+        ),
+        (
+            [
+                &["open"],
+                &key[..],
+                &header,
+                &stretch,
+                &["--header-file", "file"],
+            ]
+            .concat(),
+            "--header and --header-file are both given",
+        ),
+        ([&["seal"], &key[..], &key].concat(), "--key is given twice"),
+        (
+            vec!["seal", "--hex-in", "--hex-in"],
+            "--hex-in is given twice",
+        ),
+        (
+            [&["seal"], &key[..], &["--header", "0g"], &stretch].concat(),
+            "--header is not pairs of hex digits",
+        ),
+        (
+            [&["seal"], &key[..], &header, &["--stretch", "-1"]].concat(),
+            "--stretch -1 is not a number of bytes",
+        ),
+        (
+            [
+                &["seal"],
+                &key[..],
+                &header,
+                &["--stretch", "18446744073709551616"],
+            ]
+            .concat(),
+            "--stretch 18446744073709551616 is not a number of bytes",
+        ),
+        (
+            [&["seal"], &key[..], &header, &["--stretch", ""]].concat(),
+            "--stretch  is not a number of bytes",
+        ),
+    ];
+    for (words, message) in cases {
+        fails(
+            &jarrovento(&words, b""),
+            64,
+            &format!("{message}; see jarrovento --help"),
+        );
+    }
+}
+
+#[test]
+fn input_that_is_not_hex() {
+    let folder = folder("not_hex");
+    let key = file(&folder, "key", &counting(48));
+    for input in ["0", "0g", "012", "zz", "é"] {
+        let run = jarrovento(&words("open", &key, "0", &["--hex-in"]), input.as_bytes());
+        fails(&run, 65, "what was read is not pairs of hex digits");
+    }
+}
+
+#[test]
+fn files_that_cannot_be_read_or_written() {
+    let folder = folder("trouble");
+    let key = file(&folder, "key", &counting(48));
+    let missing = folder.join("missing").join("file");
+    let missing = missing.to_str().unwrap();
+    let is_a_folder = folder.to_str().unwrap();
+    for words in [
+        words("seal", missing, "4", &[]),
+        words("seal", &key, "4", &["--in", missing]),
+        words("seal", &key, "4", &["--out", missing]),
+        vec![
+            "seal",
+            "--key",
+            &key,
+            "--header-file",
+            missing,
+            "--stretch",
+            "4",
+        ],
+        vec!["header", "--nonce", "01", "--host", "n7", "--out", missing],
+    ] {
+        let run = jarrovento(&words, b"hello");
+        fails(
+            &run,
+            74,
+            &format!("{missing}: No such file or directory (os error 2)"),
+        );
+    }
+    let run = jarrovento(&words("open", &key, "0", &["--in", is_a_folder]), b"");
+    fails(
+        &run,
+        74,
+        &format!("{is_a_folder}: Is a directory (os error 21)"),
+    );
+}
+
+#[test]
+fn standard_output_that_is_full() {
+    for words in [
+        &["--help"][..],
+        &["demo"],
+        &["header", "--nonce", "01", "--host", "n7"],
+    ] {
+        let full = File::options().write(true).open("/dev/full").unwrap();
+        let output = program().args(words).stdout(full).output().unwrap();
+        assert_eq!(output.status.code(), Some(74));
+        let message = String::from_utf8(output.stderr).unwrap();
+        assert!(
+            message.starts_with("jarrovento: standard output: "),
+            "{message}"
+        );
+    }
+}
