@@ -1,0 +1,149 @@
+//! How long a call takes: the proved library beside the second program, and
+//! beside software AES-128-CTR of BearSSL on as many bytes of text. Prints a
+//! table in Markdown. It needs Debian's libbearssl-dev:
+//!
+//!     cargo bench --features bearssl
+
+#[path = "../second/mod.rs"]
+#[allow(dead_code)] // Its other parts are called by the tests.
+mod second;
+
+mod bearssl;
+
+use std::hint::black_box;
+use std::time::{Duration, Instant};
+
+use bearssl::{Ct64, Small};
+use second::aes::aes128;
+use second::document01;
+
+const LENGTHS: [usize; 6] = [5, 31, 64, 1_024, 4_096, 65_472];
+const STRETCH: u64 = 4;
+/// The strings 01, "n7", no bytes, "de".
+const HEADER: &[u8] = b"\x04\x00\x01\x01\x00\x02n7\x00\x00\x00\x02de";
+
+/// Turns of each contender, one after the other, so that a slow spell of the
+/// machine meets all of them. The best turn counts.
+const TURNS: usize = 25;
+/// How long a turn is at least: short, so that some turn of each is undisturbed.
+const TURN: Duration = Duration::from_millis(4);
+
+fn main() {
+    println!(
+        "Machine: {}. Command: `cargo bench --features bearssl`. Stretch {STRETCH}, a header of \
+         four strings, the best of {TURNS} alternating turns. BearSSL is AES-128-CTR on the \
+         text alone, its key schedule not counted.\n",
+        machine()
+    );
+    println!(
+        "| Call | Bytes of text | Proved, ns a call | Proved, ns a byte \
+         | Second program, ns a call | BearSSL small, ns a call | BearSSL ct64, ns a call \
+         | Proved / second program | Proved / BearSSL small |"
+    );
+    println!("|---|--:|--:|--:|--:|--:|--:|--:|--:|");
+    for length in LENGTHS {
+        measure(length);
+    }
+}
+
+/// Prints the table's two lines for texts of this length.
+fn measure(length: usize) {
+    let key: [u8; 48] = std::array::from_fn(|place| place as u8);
+    let text: Vec<u8> = (0..length).map(|place| place as u8).collect();
+    let sealed = sealed_by_both(&key, &text);
+    let (small, ct64) = yardsticks(key[..16].try_into().expect("16 of 48 bytes"));
+
+    let mut outs: [Vec<u8>; 4] = std::array::from_fn(|_| vec![0; sealed.len()]);
+    let [sealing, second_sealing, opening, second_opening] = &mut outs;
+    let (mut small_data, mut ct64_data) = (text.clone(), text.clone());
+    let [seal, second_seal, open, second_open, small, ct64] = best_of([
+        &mut || {
+            let sealed = jarrovento::seal(black_box(&key), HEADER, STRETCH, &text, sealing);
+            assert!(black_box(sealed).is_ok());
+        },
+        &mut || {
+            let answer = document01::seal(black_box(&key), HEADER, STRETCH, &text, second_sealing);
+            assert_eq!(black_box(answer).number, 0);
+        },
+        &mut || {
+            let opened = jarrovento::open(black_box(&key), HEADER, STRETCH, &sealed, opening);
+            assert!(black_box(opened).is_ok());
+        },
+        &mut || {
+            let answer =
+                document01::open(black_box(&key), HEADER, STRETCH, &sealed, second_opening);
+            assert_eq!(black_box(answer).number, 0);
+        },
+        &mut || small.run(black_box(&mut small_data)),
+        &mut || ct64.run(black_box(&mut ct64_data)),
+    ]);
+    for (call, proved, second) in [("seal", seal, second_seal), ("open", open, second_open)] {
+        println!(
+            "| {call} | {length} | {proved:.0} | {:.1} | {second:.0} | {small:.0} | {ct64:.0} \
+             | {:.2} | {:.1} |",
+            proved / length as f64,
+            proved / second,
+            proved / small,
+        );
+    }
+}
+
+/// The sealed string, on which both programs agree.
+fn sealed_by_both(key: &[u8], text: &[u8]) -> Vec<u8> {
+    let mut sealed = vec![0; text.len() + STRETCH as usize];
+    let mut again = sealed.clone();
+    jarrovento::seal(key, HEADER, STRETCH, text, &mut sealed).expect("the text seals");
+    document01::seal(key, HEADER, STRETCH, text, &mut again);
+    assert!(sealed == again, "the two programs seal differently");
+    sealed
+}
+
+/// BearSSL's two ciphers, seen to be AES on the first block that they make.
+fn yardsticks(key: [u8; 16]) -> (Small, Ct64) {
+    let (small, ct64) = (Small::new(&key), Ct64::new(&key));
+    let (mut small_block, mut ct64_block) = ([0; 16], [0; 16]);
+    small.run(&mut small_block);
+    ct64.run(&mut ct64_block);
+    let expected = aes128(key, [0; 16]);
+    assert_eq!([small_block, ct64_block], [expected; 2]);
+    (small, ct64)
+}
+
+/// For each contender, the nanoseconds of a call in its best turn.
+fn best_of<const N: usize>(contenders: [&mut dyn FnMut(); N]) -> [f64; N] {
+    let mut contenders = contenders.map(|contender| (calls_in_a_turn(contender), contender));
+    let mut best = [f64::INFINITY; N];
+    for _ in 0..TURNS {
+        for (best, (calls, contender)) in best.iter_mut().zip(&mut contenders) {
+            let elapsed = time(contender, *calls);
+            *best = best.min(elapsed.as_nanos() as f64 / f64::from(*calls));
+        }
+    }
+    best
+}
+
+/// How many calls make a turn long enough.
+fn calls_in_a_turn(contender: &mut dyn FnMut()) -> u32 {
+    let mut calls = 1;
+    while time(contender, calls) < TURN {
+        calls *= 2;
+    }
+    calls
+}
+
+fn time(contender: &mut dyn FnMut(), calls: u32) -> Duration {
+    let start = Instant::now();
+    for _ in 0..calls {
+        contender();
+    }
+    start.elapsed()
+}
+
+/// The processor's name.
+fn machine() -> String {
+    let about = std::fs::read_to_string("/proc/cpuinfo").unwrap_or_default();
+    let name = about
+        .lines()
+        .find_map(|line| line.strip_prefix("model name")?.split_once(": "));
+    name.map_or("unknown".to_string(), |(_, name)| name.to_string())
+}
