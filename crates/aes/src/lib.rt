@@ -1,10 +1,11 @@
 // The AES round of FIPS 197, and AES4 and AES10 of the AEZ paper's section 7. The last round keeps its MixColumns.
 ghost use mathlib.Core.List.{map};
 ghost use mathlib.Core.Path.{_≡_};
-ghost use Prim.Native.Nat.{_+_, _%_};
+ghost use Prim.Native.Nat.{_+_, _%_, _≤_};
+ghost use lib.ListN.{length};
 ghost use Rattle.paper.specs.Strings.{tab};
 ghost use Rattle.paper.specs.Fips197.{sbox, xtime, at, state, SubBytes, MixColumns};
-ghost use Rattle.paper.specs.Section7.{aesenc, AES4, AES10};
+ghost use Rattle.paper.specs.Section7.{aesenc, AES, AES4, AES10};
 
 mod sbox;
 
@@ -128,15 +129,17 @@ fn aesenc(t: &[u8; 256], x: [u8; 16], k: [u8; 16]) -> [u8; 16]
     block::xor(m, k)
 }
 
-// AES4 under five keys.
-pub fn aes4(k: [[u8; 16]; 5], x: [u8; 16]) -> [u8; 16]
-    ensures { λ r. ⌜ r ≡ AES4 k x ⌝ }
+// The first key added, and a round for each that follows it. AES4 and AES10 share this one loop, so that the compiler puts the round into
+// its body and the state stays in registers.
+fn rounds(k: &[[u8; 16]], x: [u8; 16]) -> [u8; 16]
+    requires { ⌜ 1 ≤ length (now k) ⌝ }
+    ensures { λ r. ⌜ r ≡ AES (now (k .entry)) x ⌝ }
 {
     let t = sboxes();
     let k0 = k[0];
     let mut s = block::xor(x, k0);
     let mut i: usize = 1;
-    while i < 5 {
+    while i < k.len() {
         let ki = k[i];
         let y = aesenc(&t, s, ki);
         s = y;
@@ -145,19 +148,16 @@ pub fn aes4(k: [[u8; 16]; 5], x: [u8; 16]) -> [u8; 16]
     s
 }
 
+// AES4 under five keys.
+pub fn aes4(k: [[u8; 16]; 5], x: [u8; 16]) -> [u8; 16]
+    ensures { λ r. ⌜ r ≡ AES4 k x ⌝ }
+{
+    rounds(&k, x)
+}
+
 // AES10 under eleven keys.
 pub fn aes10(k: [[u8; 16]; 11], x: [u8; 16]) -> [u8; 16]
     ensures { λ r. ⌜ r ≡ AES10 k x ⌝ }
 {
-    let t = sboxes();
-    let k0 = k[0];
-    let mut s = block::xor(x, k0);
-    let mut i: usize = 1;
-    while i < 11 {
-        let ki = k[i];
-        let y = aesenc(&t, s, ki);
-        s = y;
-        i += 1;
-    }
-    s
+    rounds(&k, x)
 }
