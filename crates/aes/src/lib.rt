@@ -1,11 +1,12 @@
 // The AES round of FIPS 197, and AES4 and AES10 of the AEZ paper's section 7. The last round keeps its MixColumns.
-ghost use mathlib.Core.List.{map};
+// The state is kept as four columns, each one number, its first byte the highest: MixColumns then works on four bytes at once.
 ghost use mathlib.Core.Path.{_≡_};
-ghost use Prim.Native.Nat.{_+_, _%_, _≤_};
+ghost use Prim.Native.Nat.{_<_, _≤_};
 ghost use lib.ListN.{length};
-ghost use Rattle.paper.specs.Strings.{tab};
-ghost use Rattle.paper.specs.Fips197.{sbox, xtime, at, state, SubBytes, MixColumns};
+ghost use Rattle.paper.specs.Strings.{tab, _⊕_};
+ghost use Rattle.paper.specs.Fips197.{sbox};
 ghost use Rattle.paper.specs.Section7.{aesenc, AES, AES4, AES10};
+ghost use Rattle.aes.specs.Columns.{row0, row1, row2, row3, column, columnAt, turned, doubled, mixed, shifted, bytesOf};
 
 mod sbox;
 
@@ -23,110 +24,155 @@ fn sub(t: &[u8; 256], x: u8) -> u8
     t[x as usize]
 }
 
-fn sub_bytes(t: &[u8; 256], x: [u8; 16]) -> [u8; 16]
+// The bytes of a column.
+fn row0(w: u32) -> u8
+    ensures { λ r. ⌜ r ≡ row0 w ⌝ }
+{
+    (w / 16777216 % 256) as u8
+}
+
+fn row1(w: u32) -> u8
+    ensures { λ r. ⌜ r ≡ row1 w ⌝ }
+{
+    (w / 65536 % 256) as u8
+}
+
+fn row2(w: u32) -> u8
+    ensures { λ r. ⌜ r ≡ row2 w ⌝ }
+{
+    (w / 256 % 256) as u8
+}
+
+fn row3(w: u32) -> u8
+    ensures { λ r. ⌜ r ≡ row3 w ⌝ }
+{
+    (w % 256) as u8
+}
+
+fn wide(x: u8) -> u32
+    ensures { λ r. ⌜ (r ≡ x) × (r < 256) ⌝ }
+{
+    x as u32
+}
+
+// The column of four bytes.
+fn column(a: u8, b: u8, c: u8, d: u8) -> u32
+    ensures { λ r. ⌜ r ≡ column a b c d ⌝ }
+{
+    wide(a) * 16777216 + wide(b) * 65536 + wide(c) * 256 + wide(d)
+}
+
+// A column turned up by one row.
+fn turned(w: u32) -> u32
+    ensures { λ r. ⌜ r ≡ turned w ⌝ }
+{
+    w % 16777216 * 256 + w / 16777216
+}
+
+// Each byte of a column by 2, with no branch.
+fn doubled(w: u32) -> u32
+    ensures { λ r. ⌜ r ≡ doubled w ⌝ }
+{
+    ((w & 0x7f7f7f7f) << 1) ^ (((w & 0x80808080) >> 7) * 27)
+}
+
+// MixColumns of a column: a byte is 2 of itself, 3 of the one below it, and the two below that.
+fn mixed(w: u32) -> u32
+    ensures { λ r. ⌜ r ≡ mixed w ⌝ }
+{
+    let d = doubled(w);
+    let two_below = turned(w ^ turned(w));
+    d ^ turned(d ^ w ^ two_below)
+}
+
+// SubBytes and ShiftRows for one column: a row of each of four.
+fn shifted(t: &[u8; 256], a: u32, b: u32, c: u32, d: u32) -> u32
     requires { ⌜ now t ≡ tab 256 sbox ⌝ }
-    ensures { λ r. ⌜ r ≡ SubBytes x ⌝ }
+    ensures { λ r. ⌜ r ≡ shifted a b c d ⌝ }
 {
-    let mut r = [0u8; 16];
-    let mut i: usize = 0;
-    while i < 16 {
-        r[i] = sub(t, x[i]);
-        i += 1;
-    }
-    r
+    let r0 = row0(a);
+    let r1 = row1(b);
+    let r2 = row2(c);
+    let r3 = row3(d);
+    let s0 = sub(t, r0);
+    let s1 = sub(t, r1);
+    let s2 = sub(t, r2);
+    let s3 = sub(t, r3);
+    column(s0, s1, s2, s3)
 }
 
-// ShiftRows.
-fn shift_rows(x: [u8; 16]) -> [u8; 16]
-    ensures { λ r. ⌜ r ≡ state (λ r c. at x r ((c + r) % 4)) ⌝ }
+// The sum of two states.
+fn add(a: [u32; 4], b: [u32; 4]) -> [u32; 4]
+    ensures { λ r. ⌜ bytesOf r ≡ bytesOf a ⊕ bytesOf b ⌝ }
 {
-    [
-        x[0],
-        x[5],
-        x[10],
-        x[15],
-        x[4],
-        x[9],
-        x[14],
-        x[3],
-        x[8],
-        x[13],
-        x[2],
-        x[7],
-        x[12],
-        x[1],
-        x[6],
-        x[11],
-    ]
-}
-
-// Each column turned up by one row.
-fn turned(x: [u8; 16]) -> [u8; 16]
-    ensures { λ r. ⌜ r ≡ state (λ r c. at x ((r + 1) % 4) c) ⌝ }
-{
-    [
-        x[1],
-        x[2],
-        x[3],
-        x[0],
-        x[5],
-        x[6],
-        x[7],
-        x[4],
-        x[9],
-        x[10],
-        x[11],
-        x[8],
-        x[13],
-        x[14],
-        x[15],
-        x[12],
-    ]
-}
-
-// 2 • x, with no branch.
-fn twice(x: u8) -> u8
-    ensures { λ r. ⌜ r ≡ xtime x ⌝ }
-{
-    (x << 1) ^ ((x >> 7) * 27)
-}
-
-// Each byte by 2.
-fn twices(x: [u8; 16]) -> [u8; 16]
-    ensures { λ r. ⌜ r ≡ map xtime x ⌝ }
-{
-    let mut r = [0u8; 16];
-    let mut i: usize = 0;
-    while i < 16 {
-        r[i] = twice(x[i]);
-        i += 1;
-    }
-    r
-}
-
-// MixColumns, on all columns at once: a byte is 2 of itself, 3 of the one below it, and the two below that.
-fn mix_columns(s: [u8; 16]) -> [u8; 16]
-    ensures { λ r. ⌜ r ≡ MixColumns s ⌝ }
-{
-    let d = twices(s);
-    let below = turned(s);
-    let pairs = block::xor(s, below);
-    let two_below = turned(pairs);
-    let three = block::xor(d, s);
-    let others = block::xor(three, two_below);
-    let turned_others = turned(others);
-    block::xor(d, turned_others)
+    [a[0] ^ b[0], a[1] ^ b[1], a[2] ^ b[2], a[3] ^ b[3]]
 }
 
 // One round: SubBytes, ShiftRows, MixColumns, and the key added.
-fn aesenc(t: &[u8; 256], x: [u8; 16], k: [u8; 16]) -> [u8; 16]
+fn aesenc(t: &[u8; 256], s: [u32; 4], k: [u32; 4]) -> [u32; 4]
     requires { ⌜ now t ≡ tab 256 sbox ⌝ }
-    ensures { λ r. ⌜ r ≡ aesenc x k ⌝ }
+    ensures { λ r. ⌜ bytesOf r ≡ aesenc (bytesOf s) (bytesOf k) ⌝ }
 {
-    let s = sub_bytes(t, x);
-    let h = shift_rows(s);
-    let m = mix_columns(h);
-    block::xor(m, k)
+    let a = s[0];
+    let b = s[1];
+    let c = s[2];
+    let d = s[3];
+    let s0 = shifted(t, a, b, c, d);
+    let s1 = shifted(t, b, c, d, a);
+    let s2 = shifted(t, c, d, a, b);
+    let s3 = shifted(t, d, a, b, c);
+    let m0 = mixed(s0);
+    let m1 = mixed(s1);
+    let m2 = mixed(s2);
+    let m3 = mixed(s3);
+    add([m0, m1, m2, m3], k)
+}
+
+// The column of a block whose row 0 is byte n.
+fn column_at(x: [u8; 16], n: usize) -> u32
+    requires { ⌜ n ≤ 12 ⌝ }
+    ensures { λ r. ⌜ r ≡ columnAt x n ⌝ }
+{
+    column(x[n], x[n + 1], x[n + 2], x[n + 3])
+}
+
+// The state of a block.
+fn columns(x: [u8; 16]) -> [u32; 4]
+    ensures { λ r. ⌜ bytesOf r ≡ x ⌝ }
+{
+    let a = column_at(x, 0);
+    let b = column_at(x, 4);
+    let c = column_at(x, 8);
+    let d = column_at(x, 12);
+    [a, b, c, d]
+}
+
+// The block of a state.
+fn bytes(s: [u32; 4]) -> [u8; 16]
+    ensures { λ r. ⌜ r ≡ bytesOf s ⌝ }
+{
+    let a = s[0];
+    let b = s[1];
+    let c = s[2];
+    let d = s[3];
+    [
+        (a / 16777216 % 256) as u8,
+        (a / 65536 % 256) as u8,
+        (a / 256 % 256) as u8,
+        (a % 256) as u8,
+        (b / 16777216 % 256) as u8,
+        (b / 65536 % 256) as u8,
+        (b / 256 % 256) as u8,
+        (b % 256) as u8,
+        (c / 16777216 % 256) as u8,
+        (c / 65536 % 256) as u8,
+        (c / 256 % 256) as u8,
+        (c % 256) as u8,
+        (d / 16777216 % 256) as u8,
+        (d / 65536 % 256) as u8,
+        (d / 256 % 256) as u8,
+        (d % 256) as u8,
+    ]
 }
 
 // The first key added, and a round for each that follows it. AES4 and AES10 share this one loop, so that the compiler puts the round into
@@ -137,15 +183,18 @@ fn rounds(k: &[[u8; 16]], x: [u8; 16]) -> [u8; 16]
 {
     let t = sboxes();
     let k0 = k[0];
-    let mut s = block::xor(x, k0);
+    let first = columns(k0);
+    let text = columns(x);
+    let mut s = add(text, first);
     let mut i: usize = 1;
     while i < k.len() {
         let ki = k[i];
-        let y = aesenc(&t, s, ki);
+        let key = columns(ki);
+        let y = aesenc(&t, s, key);
         s = y;
         i += 1;
     }
-    s
+    bytes(s)
 }
 
 // AES4 under five keys.

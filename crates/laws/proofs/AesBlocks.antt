@@ -31,7 +31,7 @@ unfolding sbox
 sbox-byte x = affine-byte _
 
 -- x times any number is a byte
-xtime-byte : (b : ℕ) → xtime b < 256
+pub xtime-byte : (b : ℕ) → xtime b < 256
 xtime-byte b = go (eqb (b / 128) 0)
   where
     low : b * 2 % 256 < 256

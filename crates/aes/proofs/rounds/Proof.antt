@@ -1,18 +1,19 @@
 -- `aes::rounds` meets its contract. The invariant: s has had the rounds of the keys before key i.
 use mathlib.Core.List.{List, []}
-use mathlib.Core.Path.{_≡_, refl, ap, sym, _∙_}
+use mathlib.Core.Path.{_≡_, refl, ap, ap₂, sym, _∙_}
 use Prim.Native.Nat.{suc, _-_, _≤_}
 use native.Mathlib.Omega.{arith}
 use borrow.Author.Needs.{needs}
 use lib.ListN.{length, take, drop, getD}
-use Rattle.paper.specs.Strings.{Bytes}
+use Rattle.paper.specs.Strings.{Bytes, _⊕_}
 use Rattle.paper.specs.Section7.{aesenc, rounds}
 use Rattle.laws.proofs.Round.{rounds-more, AES-rounds}
+use Rattle.aes.specs.Columns.{bytesOf}
 use Rattle.aes.proofs.rounds.Statement.{statement}
 use Rattle.aes.proofs.rounds.Tie as tie
 
 abbrev Inv-loop : tie.InvT-loop
-Inv-loop k t s₀ i₀ s i = (s ≡ rounds (take (i - 1) (drop 1 k)) s₀) × (1 ≤ i) × (i ≤ length k)
+Inv-loop k t s₀ i₀ s i = (bytesOf s ≡ rounds (take (i - 1) (drop 1 k)) (bytesOf s₀)) × (1 ≤ i) × (i ≤ length k)
 
 abbrev μ-loop : tie.MeasureT-loop
 μ-loop k t s₀ i₀ s i = length k - i
@@ -23,8 +24,14 @@ sboxes-requires c κs = search needs
 shared-slice-copy-out-k0 : tie.Need-shared-slice-copy-out-k0 Inv-loop μ-loop
 shared-slice-copy-out-k0 c = search needs
 
-xor-requires : tie.Need-xor-requires Inv-loop μ-loop
-xor-requires c κs = search needs
+columns-requires : tie.Need-columns-requires Inv-loop μ-loop
+columns-requires c κs = search needs
+
+columns-requires-2 : tie.Need-columns-requires-2 Inv-loop μ-loop
+columns-requires-2 c κs = search needs
+
+add-requires : tie.Need-add-requires Inv-loop μ-loop
+add-requires c κs = search needs
 
 loop-holds : tie.Need-loop-holds Inv-loop μ-loop
 unfolding rounds
@@ -35,6 +42,9 @@ mul-ki c = search needs
 
 shared-slice-copy-out-ki : tie.Need-shared-slice-copy-out-ki Inv-loop μ-loop
 shared-slice-copy-out-ki c = search needs
+
+columns-requires-3 : tie.Need-columns-requires-3 Inv-loop μ-loop
+columns-requires-3 c κs = search needs
 
 aesenc-requires : tie.Need-aesenc-requires Inv-loop μ-loop
 aesenc-requires c κs = search needs
@@ -47,23 +57,28 @@ loop-less c = search needs
 
 loop-again : tie.Need-loop-again Inv-loop μ-loop
 loop-again c =
-    let l = c .before .before .before .before .loop in
-    let k : List Bytes = c .before .before .before .before .before .before .before .before .args .k .now in (
+    let l = c .before .before .before .before .before .loop in
+    let k : List Bytes = c .before .before .before .before .before .before .before .before .before .before .before .args .k .now in (
       c .aesenc .ensures
-          ∙ ap (λ (S : Bytes). aesenc S (getD k (l .i) [])) (l .inv .0)
-          ∙ sym (rounds-more (l .i) k (c .before .before .before .before .before .xor .result) (omega arith) (omega arith)),
+          ∙ ap₂ aesenc (l .inv .0) (c .before .before .columns3 .ensures)
+          ∙ sym (rounds-more (l .i) k (bytesOf (c .before .before .before .before .before .before .add .result)) (omega arith) (omega arith)),
       omega arith,
       omega arith,
     )
 
+bytes-requires : tie.Need-bytes-requires Inv-loop μ-loop
+bytes-requires c κs = search needs
+
 returns : tie.Need-returns Inv-loop μ-loop
 returns c =
-    let l = c .before .loop in
-    let a = c .before .before .before .before .before .args in
+    let l = c .before .before .loop in
+    let a = c .before .before .before .before .before .before .before .before .args in
     let k : List Bytes = a .k .now in
     let long : length k ≡ suc (l .i - 1) = omega arith in
-    l .inv .0
-    ∙ ap (λ (S : Bytes). rounds (take (l .i - 1) (drop 1 k)) S) (c .before .before .xor .ensures)
+    let added = c .before .before .before .add .ensures ∙ ap₂ _⊕_ (c .before .before .before .before .columns2 .ensures) (c .before .before .before .before .before .columns .ensures) in
+    c .bytes .ensures
+    ∙ l .inv .0
+    ∙ ap (λ (S : Bytes). rounds (take (l .i - 1) (drop 1 k)) S) added
     ∙ sym (AES-rounds (l .i - 1) k (a .x) long)
 
 pub rounds-spec : {M : Type 1} → statement M
@@ -74,12 +89,16 @@ rounds-spec =
     μ-loop
     sboxes-requires
     shared-slice-copy-out-k0
-    xor-requires
+    columns-requires
+    columns-requires-2
+    add-requires
     loop-holds
     mul-ki
     shared-slice-copy-out-ki
+    columns-requires-3
     aesenc-requires
     add-i
     loop-less
     loop-again
+    bytes-requires
     returns)

@@ -1,0 +1,58 @@
+-- `aes::shifted` meets its contract.
+use mathlib.Core.Path.{ap, _∙_}
+use Rattle.paper.specs.Fips197.{sbox}
+use Rattle.aes.specs.Columns.{column, shifted}
+use borrow.Author.Needs.{needs}
+use Rattle.aes.proofs.shifted.Statement.{statement}
+use Rattle.aes.proofs.shifted.Tie as tie
+
+row0-requires : tie.Need-row0-requires
+row0-requires c κs = search needs
+
+row1-requires : tie.Need-row1-requires
+row1-requires c κs = search needs
+
+row2-requires : tie.Need-row2-requires
+row2-requires c κs = search needs
+
+row3-requires : tie.Need-row3-requires
+row3-requires c κs = search needs
+
+sub-requires : tie.Need-sub-requires
+sub-requires c κs = search needs
+
+sub-requires-2 : tie.Need-sub-requires-2
+sub-requires-2 c κs = search needs
+
+sub-requires-3 : tie.Need-sub-requires-3
+sub-requires-3 c κs = search needs
+
+sub-requires-4 : tie.Need-sub-requires-4
+sub-requires-4 c κs = search needs
+
+column-requires : tie.Need-column-requires
+column-requires c κs = search needs
+
+returns : tie.Need-returns
+unfolding shifted
+returns c =
+    let s0 = c .before .before .before .before .sub .ensures ∙ ap sbox (c .before .before .before .before .before .before .before .before .row0 .ensures) in
+    let s1 = c .before .before .before .sub2 .ensures ∙ ap sbox (c .before .before .before .before .before .before .before .row1 .ensures) in
+    let s2 = c .before .before .sub3 .ensures ∙ ap sbox (c .before .before .before .before .before .before .row2 .ensures) in
+    let s3 = c .before .sub4 .ensures ∙ ap sbox (c .before .before .before .before .before .row3 .ensures) in
+    c .column .ensures ∙ (λ i. column (s0 i) (s1 i) (s2 i) (s3 i))
+
+pub shifted-spec : {M : Type 1} → statement M
+shifted-spec =
+    tie.close
+    (tie.spec
+    row0-requires
+    row1-requires
+    row2-requires
+    row3-requires
+    sub-requires
+    sub-requires-2
+    sub-requires-3
+    sub-requires-4
+    column-requires
+    returns)
