@@ -10,7 +10,8 @@ use Rattle.paper.specs.Section7.{zeros}
 use Rattle.paper.specs.Figure6.{BlockFunction, hashString, hashFrom, AEZ-hash}
 use Rattle.paper.specs.Document01.{inFront, readStrings, readHeader}
 use Rattle.laws.proofs.Strings.{⊕-assoc}
-use Rattle.laws.proofs.Hash.{⊕-zeros, hash-more, hash-none}
+use Rattle.laws.proofs.Hash.{hash-more, hash-none}
+use Rattle.laws.proofs.Strings.{⊕-zeros}
 use Rattle.laws.proofs.Headers.{read-strings}
 use Rattle.header.specs.Places.{entryAt, readOf}
 use Rattle.header.specs.declared.Place.the-variants.{At, Bad}

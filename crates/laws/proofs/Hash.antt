@@ -6,20 +6,12 @@ use mathlib.Core.Path.{_≡_, refl, ap, ap₂, sym, _∙_}
 use Prim.Native.Nat.{ℕ, zero, suc, _+_, _-_, _*_, _/_, _%_, _≤_, min, max}
 use native.Mathlib.Omega.{arith}
 use borrow.Author.Tests.{eq-eqb, ne-eqb}
-use lib.Bits.{xor-zero-r}
 use lib.Dec.{eqb}
 use lib.ListN.{length, take, drop, replicate, length-take, length-drop}
 use lib.Seq.{take-all}
-use Rattle.paper.specs.Strings.{Bytes, if_then_else_, zip, _⊕_, pad10*, sum}
+use Rattle.paper.specs.Strings.{Bytes, if_then_else_, _⊕_, pad10*, sum}
 use Rattle.paper.specs.Section7.{zeros}
 use Rattle.paper.specs.Figure6.{row, BlockFunction, blockAt, hashString, hashFrom}
-
--- zeros added change nothing
-pub ⊕-zeros : (n : ℕ) (X : Bytes) → length X ≤ n → X ⊕ replicate n 0 ≡ X
-unfolding _⊕_ zip
-⊕-zeros n [] h = refl
-⊕-zeros zero (x ∷ X) h = absurd (omega arith)
-⊕-zeros (suc n) (x ∷ X) h = ap₂ (λ (a : ℕ) (l : Bytes). a ∷ l) (xor-zero-r x) (⊕-zeros n X (omega arith))
 
 -- n bytes whose last block is not full: how many blocks come before it, and that it is not
 short-count : (n : ℕ) → (n % 16 ≡ 0 → n ≡ 0) → max 1 ((n + 15) / 16) - 1 ≡ n / 16

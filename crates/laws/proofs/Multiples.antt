@@ -12,9 +12,9 @@ use lib.Bits.{bitXor, xor-lt, xor-shifted, xor-zero-r}
 use lib.Dec.{eqb}
 use lib.ListN.{length, getD, set, drop, length-set, List·getD-append, List·getD-eq-default}
 use lib.Seq.{drop-append-le, getD-set-same, getD-set-other}
-use Rattle.paper.specs.Strings.{Bytes, Below, Block, if_then_else_, _⊕_, digits, number, bits, bytes}
+use Rattle.paper.specs.Strings.{Bytes, Below, Block, if_then_else_, zip, _⊕_, digits, number, bits, valueFrom, bytesOf, bytes}
 use Rattle.paper.specs.Section7.{zeros, shiftLeft, double, timesBits, _·_, twoTo}
-use Rattle.laws.proofs.Strings.{⊕-last}
+use Rattle.laws.proofs.Strings.{⊕-comm, ⊕-zeros, ⊕-last}
 use Rattle.laws.proofs.Digits.{below-getD}
 use Rattle.laws.proofs.BitStrings.{digits-first, digits-last, bits-mod, length-bits, bytes-bits, number-small}
 
@@ -163,6 +163,19 @@ times-even n X h e = half n X h ∙ ap (λ (b : Bool). if b then double ((n / 2)
 pub times-odd : (n : ℕ) (X : Bytes) → n % 2 ≢ 0 → n · X ≡ double ((n / 2) · X) ⊕ X
 times-odd n X e =
     half n X (omega arith) ∙ ap (λ (b : Bool). if b then double ((n / 2) · X) else double ((n / 2) · X) ⊕ X) (ne-eqb (n % 2) 0 e)
+
+double-zeros : double zeros ≡ zeros
+unfolding double bits bytes bytesOf valueFrom shiftLeft digits _⊕_ zip
+double-zeros = refl
+
+-- 1·X = 2·0 ⊕ X, which is X
+pub times-one : (X : Bytes) → Block X → 1 · X ≡ X
+times-one X p =
+    times-odd 1 X (λ e. omega arith)
+    ∙ ap (λ (Y : Bytes). double Y ⊕ X) (times-zero X)
+    ∙ ap (λ (Y : Bytes). Y ⊕ X) double-zeros
+    ∙ ⊕-comm zeros X
+    ∙ ⊕-zeros 16 X (omega (arith, p .len))
 
 pub twoTo-suc : (e : ℕ) (X : Bytes) → twoTo (suc e) X ≡ double (twoTo e X)
 unfolding twoTo

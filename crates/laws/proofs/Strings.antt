@@ -33,6 +33,13 @@ unfolding _⊕_ zip
 ⊕-cancel (x ∷ X) [] h = absurd (not-suc-le-zero h)
 ⊕-cancel (x ∷ X) (y ∷ Y) h = ap₂ (λ (a : ℕ) (l : List ℕ). a ∷ l) (xor-cancel x y) (⊕-cancel X Y (le-of-suc-le-suc h))
 
+-- zeros added change nothing
+pub ⊕-zeros : (n : ℕ) (X : List ℕ) → length X ≤ n → X ⊕ replicate n 0 ≡ X
+unfolding _⊕_ zip
+⊕-zeros n [] h = refl
+⊕-zeros zero (x ∷ X) h = absurd (omega arith)
+⊕-zeros (suc n) (x ∷ X) h = ap₂ (λ (a : ℕ) (l : List ℕ). a ∷ l) (xor-zero-r x) (⊕-zeros n X (omega arith))
+
 pub ⊕-length : (X Y : List ℕ) → length X ≤ length Y → length (X ⊕ Y) ≡ length X
 unfolding _⊕_ zip
 ⊕-length [] Y h = refl

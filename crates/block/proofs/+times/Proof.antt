@@ -7,7 +7,8 @@ use borrow.Fn.Kinds.{In}
 use borrow.Fn.PlainCycle.{Measures, is, falls, and}
 use Rattle.paper.specs.Strings.{Bytes, _⊕_}
 use Rattle.paper.specs.Section7.{double, _·_}
-use Rattle.laws.proofs.Multiples.{times-zero, times-even, times-odd}
+use Rattle.laws.proofs.Multiples.{times-zero, times-one, times-even, times-odd}
+use Rattle.block.proofs.Arrays.{array-bytes}
 use Rattle.block.proofs.times.Reads as times
 use Rattle.block.proofs.times.Kinds as times-kinds
 use Rattle.block.proofs.+times.Lts-times as times-lts
@@ -31,44 +32,52 @@ returns t c =
     let a = c .before .args in
     sym (ap (λ (n : ℕ). n · a .x) (c .if1 .taken) ∙ times-zero (a .x))
 
+returns-2 : (t : ℕ) → times-lts.Need-returns-2
+    (times-below t, times.Post, double-reads.Asked, double-reads.Learnt, xor-reads.Asked, xor-reads.Learnt) (times-at t) times.Post
+returns-2 t c =
+    let start = c .before .before in
+    let a = start .args in
+    sym (ap (λ (n : ℕ). n · a .x) (c .if2 .taken) ∙ times-one (a .x) (array-bytes 16 _ _ (start .good .1 .0)))
+
 times-requires : (t : ℕ) → times-lts.Need-times-requires
     (times-below t, times.Post, double-reads.Asked, double-reads.Learnt, xor-reads.Asked, xor-reads.Learnt) (times-at t) times.Post
 times-requires t c κs =
-    let some : c .before .args .n ≢ 0 = c .if1 .left in
-    (omega (arith, c .before .pre .0), tt)
+    let some : c .before .before .args .n ≢ 0 = c .before .if1 .left in
+    (omega (arith, c .before .before .pre .0), tt)
 
 double-requires : (t : ℕ) → times-lts.Need-double-requires
     (times-below t, times.Post, double-reads.Asked, double-reads.Learnt, xor-reads.Asked, xor-reads.Learnt) (times-at t) times.Post
 double-requires t c κs = tt
 
-returns-2 : (t : ℕ) → times-lts.Need-returns-2
+returns-3 : (t : ℕ) → times-lts.Need-returns-3
     (times-below t, times.Post, double-reads.Asked, double-reads.Learnt, xor-reads.Asked, xor-reads.Learnt) (times-at t) times.Post
-returns-2 t c =
-    let a = c .before .before .before .before .args in
-    let some : a .n ≢ 0 = c .before .before .before .if1 .left in
+returns-3 t c =
+    let a = c .before .before .before .before .before .args in
+    let some : a .n ≢ 0 = c .before .before .before .before .if1 .left in
     c .before .double .ensures
     ∙ ap double (c .before .before .times .ensures)
-    ∙ sym (times-even (a .n) (a .x) (omega arith) (c .if2 .taken))
+    ∙ sym (times-even (a .n) (a .x) (omega arith) (c .if3 .taken))
 
 xor-requires : (t : ℕ) → times-lts.Need-xor-requires
     (times-below t, times.Post, double-reads.Asked, double-reads.Learnt, xor-reads.Asked, xor-reads.Learnt) (times-at t) times.Post
 xor-requires t c κs = tt
 
-returns-3 : (t : ℕ) → times-lts.Need-returns-3
+returns-4 : (t : ℕ) → times-lts.Need-returns-4
     (times-below t, times.Post, double-reads.Asked, double-reads.Learnt, xor-reads.Asked, xor-reads.Learnt) (times-at t) times.Post
-returns-3 t c =
-    let a = c .before .before .before .before .before .args in
+returns-4 t c =
+    let a = c .before .before .before .before .before .before .args in
     c .xor .ensures
     ∙ ap (λ (Y : Bytes). Y ⊕ a .x) (c .before .before .double .ensures ∙ ap double (c .before .before .before .times .ensures))
-    ∙ sym (times-odd (a .n) (a .x) (c .before .if2 .left))
+    ∙ sym (times-odd (a .n) (a .x) (c .before .if3 .left))
 
 pub +times-spec : {M : Type 1} → statement M
 +times-spec =
     close μ-times λ t. times-lts.spec
     (times-below t, times.Post, double-reads.Asked, double-reads.Learnt, xor-reads.Asked, xor-reads.Learnt) (times-at t) times.Post
     (returns t)
+    (returns-2 t)
     (times-requires t)
     (double-requires t)
-    (returns-2 t)
-    (xor-requires t)
     (returns-3 t)
+    (xor-requires t)
+    (returns-4 t)
