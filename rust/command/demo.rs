@@ -32,9 +32,10 @@ reads as twenty minutes. So the record is sealed with host and locale as header.
 
 {stretch_of_4}
 {stretch_of_0}
-What a stretch of 0 can promise: the sealed string is no longer than the text;
-without the key it does not show the text; it opens to the text under its own
-header; and a change anywhere, in string or header, scrambles the whole text.
+What a stretch of 0 can promise: the sealed string is no longer than the text,
+and it opens to the text under its own header; that is proved. If AEZ is as strong
+as its authors hold, it also hides the text from those without the key, and a
+change anywhere, in string or header, scrambles the whole text.
 What it can't promise: that a wrong string or a wrong header is noticed. Every
 string opens to something, and only the reader can tell that it makes no sense.
 "
@@ -63,9 +64,9 @@ Opened on n7, under the same header
 Opened under the header of another host, n8 with locale en
   header        {}
   answer        {refusal}
-  No byte of the text is handed out. A string that was not sealed under this
-  header passes the check by chance once in 2^32 times, 32 being the bits of 4
-  bytes; a longer stretch makes that rarer.
+  No byte of the text is handed out. If AEZ is as strong as its authors hold, a
+  string that was not sealed under this header passes the check about once in
+  2^32 times, 32 being the bits of 4 bytes; a longer stretch makes that rarer.
 ",
         to_hex(n7),
         to_hex(&sealed),

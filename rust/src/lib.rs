@@ -6,12 +6,13 @@
 //! panics.
 //!
 //! A record is sealed under a **key** of 48 bytes, a **header** and a
-//! **stretch**. The header is not secret and travels beside the record; a record
-//! opens only under the header that it was sealed with. The stretch is how many
-//! bytes a sealed string is longer than its text, 0 to 64: a string that nobody
-//! has sealed passes the check with a chance of about one in 256 to the power of
-//! the stretch. At a stretch of 0 there is nothing to check, and every string opens
-//! to some text.
+//! **stretch**. The header is not secret and travels beside the record, and the
+//! record is bound to it. The stretch is how many bytes a sealed string is longer
+//! than its text, 0 to 64. They are what the check is made of: if AEZ is as strong
+//! as its authors hold, which is not part of what is proved, a string that nobody
+//! has sealed under this header passes it with a chance of about one in 256 to the
+//! power of the stretch. At a stretch of 0 there is nothing to check, and every
+//! string opens to some text.
 //!
 //! ```
 //! use jarrovento::{log_header, open, seal, Refusal};
