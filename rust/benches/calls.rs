@@ -80,7 +80,7 @@ fn measure(length: usize) {
     for (call, proved, second) in [("seal", seal, second_seal), ("open", open, second_open)] {
         println!(
             "| {call} | {length} | {proved:.0} | {:.1} | {second:.0} | {small:.0} | {ct64:.0} \
-             | {:.2} | {:.1} |",
+             | {:.2} | {:.2} |",
             proved / length as f64,
             proved / second,
             proved / small,

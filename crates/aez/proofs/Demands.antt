@@ -208,6 +208,18 @@ module _ (key header : Bytes) (strings : List Bytes) (t : ℕ) (fixed : Fixed ke
   sealing-one-to-one M N out room p q r s last left c d y z e =
       only-text M N (take (s .length) left) (subst (Seals M) e (written-sealed M out p r last c y)) (written-sealed N room q s left d z)
 
+-- an empty sealed string at stretch 0 opens to the empty text, and the output is as it was
+pub empty-string-opens : (key header : Bytes) (strings : List Bytes) (fixed : Fixed key header strings 0) (out : Bytes) (r : Answer) (last : Bytes)
+    → Opened key header 0 [] out r last → (r .number ≡ 0) × (r .length ≡ 0) × (last ≡ out)
+empty-string-opens key header strings fixed out r last call =
+    let within : Within key header strings 0 fixed [] = record { bytes = tt; limit = omega arith } in
+    let opens = opens-at-stretch-0 key header strings 0 fixed [] out within (omega arith) r last call refl in
+    let text = opens-iff-sealed key header strings 0 fixed [] out within (omega arith) r last call .0 opens in
+    let d = seals-defined key header strings 0 fixed (text .0) [] (text .1) in
+    let none-there : length (text .0) ≡ 0 = omega (arith, laws.sealed-length key header strings 0 fixed (text .0) (text .1 .text), ap length (d .to)) in
+    let returned = opening-returns key header strings 0 fixed [] out within (omega arith) r last call (text .0) (text .1) in
+    (opens, returned .0 ∙ none-there, returned .1 ∙ ap (λ (l : Bytes). l ++ replicate 0 0 ++ drop 0 out) (no-entries (text .0) none-there))
+
 -- at stretch 0 answer 7 never comes, whatever the key, the header, the string and the output are
 pub never-7-at-stretch-0 : (key header C out : Bytes) (r : Answer) (last : Bytes) → Below 256 key → Below 256 header → Below 256 C
     → Opened key header 0 C out r last → (r .number ≡ 7 → ⊥)
