@@ -22,8 +22,8 @@ const STRETCH: u64 = 4;
 /// The strings 01, "n7", no bytes, "de".
 const HEADER: &[u8] = b"\x04\x00\x01\x01\x00\x02n7\x00\x00\x00\x02de";
 
-/// Turns of each contender, one after the other, so that a slow spell of the
-/// machine meets all of them. The best turn counts.
+/// Turns of each contender at each length, one after the other, so that a slow
+/// spell of the machine meets all of them. The best turn counts.
 const TURNS: usize = 25;
 /// How long a turn is at least: short, so that some turn of each is undisturbed.
 const TURN: Duration = Duration::from_millis(4);
@@ -41,42 +41,14 @@ fn main() {
          | Proved / second program | Proved / BearSSL small |"
     );
     println!("|---|--:|--:|--:|--:|--:|--:|--:|--:|");
-    for length in LENGTHS {
-        measure(length);
+    for (length, best) in LENGTHS.into_iter().zip(best_of(LENGTHS.map(contenders))) {
+        print_lines(length, best);
     }
 }
 
-/// Prints the table's two lines for texts of this length.
-fn measure(length: usize) {
-    let key: [u8; 48] = std::array::from_fn(|place| place as u8);
-    let text: Vec<u8> = (0..length).map(|place| place as u8).collect();
-    let sealed = sealed_by_both(&key, &text);
-    let (small, ct64) = yardsticks(key[..16].try_into().expect("16 of 48 bytes"));
-
-    let mut outs: [Vec<u8>; 4] = std::array::from_fn(|_| vec![0; sealed.len()]);
-    let [sealing, second_sealing, opening, second_opening] = &mut outs;
-    let (mut small_data, mut ct64_data) = (text.clone(), text.clone());
-    let [seal, second_seal, open, second_open, small, ct64] = best_of([
-        &mut || {
-            let sealed = jarrovento::seal(black_box(&key), HEADER, STRETCH, &text, sealing);
-            assert!(black_box(sealed).is_ok());
-        },
-        &mut || {
-            let answer = document01::seal(black_box(&key), HEADER, STRETCH, &text, second_sealing);
-            assert_eq!(black_box(answer).number, 0);
-        },
-        &mut || {
-            let opened = jarrovento::open(black_box(&key), HEADER, STRETCH, &sealed, opening);
-            assert!(black_box(opened).is_ok());
-        },
-        &mut || {
-            let answer =
-                document01::open(black_box(&key), HEADER, STRETCH, &sealed, second_opening);
-            assert_eq!(black_box(answer).number, 0);
-        },
-        &mut || small.run(black_box(&mut small_data)),
-        &mut || ct64.run(black_box(&mut ct64_data)),
-    ]);
+/// The table's two lines for texts of this length.
+fn print_lines(length: usize, best: [f64; 6]) {
+    let [seal, second_seal, open, second_open, small, ct64] = best;
     for (call, proved, second) in [("seal", seal, second_seal), ("open", open, second_open)] {
         println!(
             "| {call} | {length} | {proved:.0} | {:.1} | {second:.0} | {small:.0} | {ct64:.0} \
@@ -86,6 +58,42 @@ fn measure(length: usize) {
             proved / small,
         );
     }
+}
+
+/// What is measured: one call, on its own buffers.
+type Contender = Box<dyn FnMut()>;
+
+/// For texts of this length: sealing by the proved library and by the second
+/// program, opening by both, and BearSSL's two.
+fn contenders(length: usize) -> [Contender; 6] {
+    let key: [u8; 48] = std::array::from_fn(|place| place as u8);
+    let text: Vec<u8> = (0..length).map(|place| place as u8).collect();
+    let sealed = sealed_by_both(&key, &text);
+    let (small, ct64) = yardsticks(key[..16].try_into().expect("16 of 48 bytes"));
+
+    let [mut a, mut b, mut c, mut d]: [Vec<u8>; 4] = std::array::from_fn(|_| vec![0; sealed.len()]);
+    let (mut small_data, mut ct64_data) = (text.clone(), text.clone());
+    let (again, sealed_again) = (text.clone(), sealed.clone());
+    [
+        Box::new(move || {
+            let sealed = jarrovento::seal(black_box(&key), HEADER, STRETCH, &text, &mut a);
+            assert!(black_box(sealed).is_ok());
+        }),
+        Box::new(move || {
+            let answer = document01::seal(black_box(&key), HEADER, STRETCH, &again, &mut b);
+            assert_eq!(black_box(answer).number, 0);
+        }),
+        Box::new(move || {
+            let opened = jarrovento::open(black_box(&key), HEADER, STRETCH, &sealed, &mut c);
+            assert!(black_box(opened).is_ok());
+        }),
+        Box::new(move || {
+            let answer = document01::open(black_box(&key), HEADER, STRETCH, &sealed_again, &mut d);
+            assert_eq!(black_box(answer).number, 0);
+        }),
+        Box::new(move || small.run(black_box(&mut small_data))),
+        Box::new(move || ct64.run(black_box(&mut ct64_data))),
+    ]
 }
 
 /// The sealed string, on which both programs agree.
@@ -109,12 +117,14 @@ fn yardsticks(key: [u8; 16]) -> (Small, Ct64) {
     (small, ct64)
 }
 
-/// For each contender, the nanoseconds of a call in its best turn.
-fn best_of<const N: usize>(contenders: [&mut dyn FnMut(); N]) -> [f64; N] {
-    let mut contenders = contenders.map(|contender| (calls_in_a_turn(contender), contender));
-    let mut best = [f64::INFINITY; N];
+/// For each contender at each length, the nanoseconds of a call in its best turn.
+fn best_of<const L: usize, const N: usize>(contenders: [[Contender; N]; L]) -> [[f64; N]; L] {
+    let mut contenders =
+        contenders.map(|row| row.map(|mut contender| (calls_in_a_turn(&mut contender), contender)));
+    let mut best = [[f64::INFINITY; N]; L];
     for _ in 0..TURNS {
-        for (best, (calls, contender)) in best.iter_mut().zip(&mut contenders) {
+        let all = contenders.iter_mut().flatten();
+        for (best, (calls, contender)) in best.iter_mut().flatten().zip(all) {
             let elapsed = time(contender, *calls);
             *best = best.min(elapsed.as_nanos() as f64 / f64::from(*calls));
         }
