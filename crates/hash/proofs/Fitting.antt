@@ -1,23 +1,14 @@
--- A block copied to the front of a buffer, byte by byte, and blocks put one after the other until the buffer is full.
-use mathlib.Core.List.{[], _∷_, _++_, append-assoc, append-nil}
+-- Blocks put one after the other into a buffer until it is full.
+use mathlib.Core.List.{[], _++_, append-nil}
 use mathlib.Core.Path.{_≡_, ap, ap₂, sym, _∙_}
-use Prim.Native.Nat.{ℕ, suc, _+_, _-_, _≤_, _<_, min}
+use Prim.Native.Nat.{ℕ, _+_, _-_, _≤_, _<_, min}
 use native.Mathlib.Decide.{decLe}
 use native.Mathlib.Numerals.{add-one}
 use native.Mathlib.Omega.{arith}
-use lib.ListN.{length, take, drop, getD, set, length-append, length-drop, drop-of-length-le}
-use lib.Seq.{set-at, take-suc, drop-cons, length-take-le, take-all, take-at, take-append-add}
+use lib.ListN.{length, take, drop, length-append, length-drop, drop-of-length-le}
+use lib.Seq.{length-take-le, take-all, take-at, take-append-add}
 use Rattle.paper.specs.Strings.{Bytes, join}
 use Rattle.hash.specs.Fitted.{fitted}
-
--- one byte more of y at the front of s
-pub one-more : (s y r : Bytes) (i : ℕ) → i < length s → i < length y → r ≡ take i y ++ drop i s → set r i (getD y i 0) ≡ take (i + 1) y ++ drop (i + 1) s
-one-more s y r i h g e =
-    ap (λ (l : Bytes). set l i (getD y i 0)) (e ∙ ap (λ (l : Bytes). take i y ++ l) (drop-cons s i 0 h))
-    ∙ set-at (take i y) (getD s i 0) (drop (suc i) s) (getD y i 0) i (length-take-le i y (omega arith))
-    ∙ sym (append-assoc (take i y) (getD y i 0 ∷ []) (drop (suc i) s))
-    ∙ ap₂ (λ (l : Bytes) (n : ℕ). l ++ drop n s) (sym (take-suc y i 0 g)) (sym (add-one i))
-    ∙ ap (λ (n : ℕ). take n y ++ drop (i + 1) s) (sym (add-one i))
 
 -- what was put at the front, cut to 16 bytes, is what fits
 fitted-front : (D y : Bytes) → length y ≡ 16 → take 16 (fitted D y) ≡ take (length D) y

@@ -66,7 +66,7 @@ module _
   same-length = core-bytes .len
 
   pairs-at : UpTo m (λ i. take 32 (drop (32 * (i - 1)) C) ≡ pair i)
-  pairs-at i a b = ap (λ (l : Bytes). take 32 (drop (32 * (i - 1)) l)) split ∙ join-at m i pair (uv ++ xy) (pair-bytes E E-block Δ Δ-block x y M long p) a b
+  pairs-at i a b = ap (λ (l : Bytes). take 32 (drop (32 * (i - 1)) l)) split ∙ join-at m i pair (uv ++ xy) (λ j c d. pair-bytes E E-block Δ Δ-block x y M long p j c d .len) a b
 
   blocks-at : UpTo m (λ i. (take 16 (drop (32 * (i - 1)) C) ≡ Cᵢ E Δ x y M i) × (take 16 (drop 16 (drop (32 * (i - 1)) C)) ≡ C′ᵢ E Δ x y M i))
   blocks-at i a b =

@@ -1,11 +1,11 @@
 -- A loop that fills a list r from the front, one store a turn: after i turns its first i entries are those of the list l that is wanted.
-use mathlib.Core.List.{List, [], _∷_, _++_}
+use mathlib.Core.List.{List, [], _∷_, _++_, append-assoc}
 use mathlib.Core.Path.{_≡_, ap, ap₂, sym, _∙_}
-use Prim.Native.Nat.{ℕ, _+_, _<_}
+use Prim.Native.Nat.{ℕ, suc, _+_, _<_}
 use native.Mathlib.Numerals.{add-one}
 use native.Mathlib.Omega.{arith}
-use lib.ListN.{length, take, getD, set, length-set}
-use lib.Seq.{take-suc, take-suc-set, take-all}
+use lib.ListN.{length, take, drop, getD, set, length-set}
+use lib.Seq.{set-at, take-suc, take-suc-set, drop-cons, length-take-le, take-all}
 
 -- r has as many entries as l, and its first i are l's
 pub record Front (l r : List ℕ) (i : ℕ) : Type 0 where
@@ -28,3 +28,13 @@ front-more {l} {r} {i} v f h e =
 -- after the last turn
 pub front-all : {l r : List ℕ} {i : ℕ} → Front l r i → length l ≡ i → r ≡ l
 front-all {l} {r} {i} f e = sym (take-all i r (omega (arith, f .long))) ∙ f .same ∙ take-all i l (omega arith)
+
+-- A loop that puts y's entries over s's from the front: one more, v being y's entry at i
+pub over-more : (s y r : List ℕ) (i v : ℕ) → i < length s → i < length y → v ≡ getD y i 0 → r ≡ take i y ++ drop i s
+    → set r i v ≡ take (i + 1) y ++ drop (i + 1) s
+over-more s y r i v h g is e =
+    ap₂ (λ (l : List ℕ) (n : ℕ). set l i n) (e ∙ ap (λ (l : List ℕ). take i y ++ l) (drop-cons s i 0 h)) is
+    ∙ set-at (take i y) (getD s i 0) (drop (suc i) s) (getD y i 0) i (length-take-le i y (omega arith))
+    ∙ sym (append-assoc (take i y) (getD y i 0 ∷ []) (drop (suc i) s))
+    ∙ ap₂ (λ (l : List ℕ) (n : ℕ). l ++ drop n s) (sym (take-suc y i 0 g)) (sym (add-one i))
+    ∙ ap (λ (n : ℕ). take n y ++ drop (i + 1) s) (sym (add-one i))

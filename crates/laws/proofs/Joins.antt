@@ -5,7 +5,7 @@ use Prim.Native.Nat.{ℕ, zero, suc, _+_, _-_, _*_, _≤_}
 use native.Mathlib.Decide.{decLe}
 use native.Mathlib.Nat.{mul-suc}
 use native.Mathlib.Omega.{arith}
-use lib.ListN.{length, take, drop}
+use lib.ListN.{length, take, drop, length-append}
 use lib.Seq.{take-at, drop-at}
 use Rattle.paper.specs.Strings.{Bytes, Digits, Block, _⊕_, sum, join}
 use Rattle.laws.proofs.Digits.{⊕-digits, append-digits, zero-digits, as-digits}
@@ -46,15 +46,23 @@ join-bytes w (suc m) f h =
 pub join-digits : (m : ℕ) (f : ℕ → Bytes) → UpTo m (λ i. Digits 8 32 (f i)) → Digits 8 (32 * m) (join m f)
 join-digits m f h = join-bytes 32 m f h
 
+-- strings of 32 entries joined: how long that is
+pub join-long : (m : ℕ) (f : ℕ → Bytes) → UpTo m (λ i. length (f i) ≡ 32) → length (join m f) ≡ 32 * m
+unfolding join
+join-long zero f h = refl
+join-long (suc m) f h =
+    length-append (join m f) (f (suc m))
+    ∙ omega (arith, join-long m f (fewer m (λ i. length (f i) ≡ 32) h), last m (λ i. length (f i) ≡ 32) h)
+
 -- the i-th of them
-pub join-at : (m i : ℕ) (f : ℕ → Bytes) (R : Bytes) → UpTo m (λ i. Digits 8 32 (f i)) → 1 ≤ i → i ≤ m
+pub join-at : (m i : ℕ) (f : ℕ → Bytes) (R : Bytes) → UpTo m (λ i. length (f i) ≡ 32) → 1 ≤ i → i ≤ m
     → take 32 (drop (32 * (i - 1)) (join m f ++ R)) ≡ f i
 unfolding join
 join-at zero i f R h a b = absurd (omega arith)
 join-at (suc m) i f R h a b = go (decLe i m) (λ c. join-at m i f (f (suc m) ++ R) before a c)
   where
-    before : UpTo m (λ i. Digits 8 32 (f i))
-    before = fewer m (λ i. Digits 8 32 (f i)) h
+    before : UpTo m (λ i. length (f i) ≡ 32)
+    before = fewer m (λ i. length (f i) ≡ 32) h
 
     go : Dec (i ≤ m) → (i ≤ m → take 32 (drop (32 * (i - 1)) (join m f ++ (f (suc m) ++ R))) ≡ f i)
         → take 32 (drop (32 * (i - 1)) ((join m f ++ f (suc m)) ++ R)) ≡ f i
@@ -62,10 +70,10 @@ join-at (suc m) i f R h a b = go (decLe i m) (λ c. join-at m i f (f (suc m) ++ 
     go (no c) ih =
         let e : suc m ≡ i = omega (arith, c) in
         let at : 32 * m ≡ 32 * (i - 1) = omega arith in
-        let long : length (join m f) ≡ 32 * (i - 1) = join-digits m f before .len ∙ at in
+        let long : length (join m f) ≡ 32 * (i - 1) = join-long m f before ∙ at in
         ap (λ (l : Bytes). take 32 (drop (32 * (i - 1)) l)) (append-assoc (join m f) (f (suc m)) R)
         ∙ ap (take 32) (drop-at (join m f) (f (suc m) ++ R) (32 * (i - 1)) long)
-        ∙ take-at (f (suc m)) R 32 (last m (λ i. Digits 8 32 (f i)) h .len)
+        ∙ take-at (f (suc m)) R 32 (last m (λ i. length (f i) ≡ 32) h)
         ∙ ap f e
 
 -- a sum with its next term, counted as a loop does

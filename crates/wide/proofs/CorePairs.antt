@@ -9,10 +9,9 @@ use Rattle.paper.specs.Strings.{Bytes, _⊕_, sum, join}
 use Rattle.paper.specs.Figure6.{row, BlockFunction}
 use Rattle.paper.specs.Figure5.{pairs, Mᵢ, M′ᵢ, Wᵢ, Xᵢ, S as Sall, S′ᵢ, Yᵢ, Zᵢ, C′ᵢ, Cᵢ}
 use Rattle.laws.proofs.Strings.{⊕-length}
-use Rattle.laws.proofs.Joins.{UpTo, sum-ext, join-ext}
+use Rattle.laws.proofs.Joins.{UpTo, sum-ext, join-ext, join-at}
 use Rattle.laws.proofs.CoreParts.{cut}
 use Rattle.wide.specs.Pairs.{firstW, firstX, firstPair, secondY, secondZ, secondC′, secondC, secondPair, pairAt, pairSum}
-use Rattle.wide.proofs.Joined.{join-at}
 
 -- the second block of a pair
 back : (l : Bytes) → 32 ≤ length l → take 16 (drop 16 (take 32 l)) ≡ take 16 (drop 16 l)

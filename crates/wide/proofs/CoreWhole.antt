@@ -9,10 +9,10 @@ use Rattle.paper.specs.Strings.{Bytes, _⊕_, sum, join}
 use Rattle.paper.specs.Figure6.{row, BlockFunction}
 use Rattle.paper.specs.Figure5.{pairs, rest, Muv, Wᵢ, Xᵢ, X as Xall, Sx, Sy, S as Sall, Yᵢ, C′ᵢ, Cᵢ, Cu, Cv, Y as Yall, Cy, Cx, core}
 use Rattle.laws.proofs.CoreParts.{cut}
+use Rattle.laws.proofs.Joins.{join-long}
 use Rattle.wide.specs.Pairs.{firstX, firstPair, secondY, secondPair, pairAt, pairSum, paired}
 use Rattle.wide.specs.Uv.{withUv, uMasked, vMasked}
 use Rattle.wide.specs.Ends.{sxOf, syOf, cxOf, cyOf}
-use Rattle.wide.proofs.Joined.{join-long}
 use Rattle.wide.proofs.Parts.{second, third, put-second, put-third}
 use Rattle.wide.proofs.CorePairs.{WX-long, firsts, first-sum, seconds, second-sum}
 use Rattle.wide.proofs.CoreUv.{uv-long, xy-long, X-all, Sx-is, Sy-is, S-is, uv-is, Y-all, ends-are}

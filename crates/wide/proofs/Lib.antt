@@ -5,7 +5,6 @@ mod Masks
 mod Passes
 mod MaskedParts
 mod Lengths
-mod Joined
 mod Parts
 mod CorePairs
 mod CoreUv

@@ -5,8 +5,8 @@ use Prim.Native.Nat.{ℕ, _-_, _≤_, min}
 use native.Mathlib.Omega.{arith}
 use borrow.Author.Needs.{needs}
 use lib.ListN.{length, take, drop, getD, length-set}
+use Rattle.laws.proofs.Fronts.{over-more}
 use Rattle.hash.specs.Fitted.{fitted}
-use Rattle.hash.proofs.Fitting.{one-more}
 use Rattle.hash.proofs.put_front.Statement.{statement}
 use Rattle.hash.proofs.put_front.Tie as tie
 
@@ -41,7 +41,7 @@ loop-again c =
     let n = c .before .before .least .ensures in
     let long : length (a .t2) ≡ 16 = search needs in (
       omega arith,
-      one-more (a .s .now) (a .t2) (l .s) (l .i) (omega (arith, n)) (omega (arith, n)) (l .inv .1),
+      over-more (a .s .now) (a .t2) (l .s) (l .i) (getD (a .t2) (l .i) 0) (omega (arith, n)) (omega (arith, n)) refl (l .inv .1),
       length-set (l .s) (l .i) (getD (a .t2) (l .i) 0) ∙ l .inv .2,
     )
 
