@@ -5,9 +5,8 @@ use header::Answer;
 use header::Reading;
 use wide::Way;
 ghost use denote.Ref.{ptr};
-ghost use mathlib.Core.List.{_++_};
 ghost use mathlib.Core.Path.{_≡_};
-ghost use Prim.Native.Nat.{_+_, _-_, _≤_};
+ghost use Prim.Native.Nat.{_-_, _≤_};
 ghost use lib.ListN.{length, replicate};
 ghost use Rattle.paper.specs.Strings.{same};
 ghost use Rattle.paper.specs.Figure6.{E};
@@ -147,7 +146,8 @@ fn encrypt(k: tbc::Key, delta: [u8; 16], text: &[u8], out: &mut [u8])
     encipher_in_place(k, delta, out);
 }
 
-// Lines 112 and 113: a sealed string of the stretch's length. out, as long, ends as zeros: the text is empty, and so is a refusal's.
+// Lines 112 and 113: a sealed string of the stretch's length, which only the empty text can seal to. out, as long, ends as zeros, whether the
+// check held or not.
 fn decrypt_empty(k: tbc::Key, delta: [u8; 16], sealed: &[u8], out: &mut [u8]) -> bool
     requires { ⌜ (length (now sealed) ≡ length (now out)) × (length (now out) ≤ 64) ⌝ }
     ensures { λ r. ⌜ (r ≡ opens (decryptUnder (E (blocks k)) delta (length (now (sealed .entry))) (now (sealed .entry)))) × (now (out .exit) ≡ replicate (length (now (out .entry))) 0) ⌝ }
@@ -242,6 +242,7 @@ pub fn open_part<'a>(
     &mut out[0..n]
 }
 
+// What other programs link. From there each slice is a pointer and then a length; the names, the order and the widths are fixed.
 #[no_mangle]
 pub extern "C" fn aez_seal(
     key: &[u8],
