@@ -13,6 +13,7 @@ use lib.Seq.{take-all, take-append-seam}
 use Rattle.paper.specs.Strings.{Bytes, if_then_else_, same}
 use Rattle.paper.specs.Figure6.{BlockFunction, prfFrom}
 use Rattle.paper.specs.Figure5.{encipher, decipher, unpadded}
+use Rattle.laws.proofs.Fronts.{lent-end}
 use Rattle.laws.proofs.Sealing.{same-equal}
 use Rattle.laws.proofs.Tables.{no-entries}
 use Rattle.aez.specs.Under.{encryptUnder, decryptUnder, opens, leaves}
@@ -38,9 +39,7 @@ cleared M out mid zs h e z =
     let back : length (drop (length M) mid) ≡ length out - length M = length-drop (length M) mid ∙ ap (λ (k : ℕ). k - length M) long in
     let all : length (take (length mid - length M) (drop (length M) mid)) ≡ length out - length M =
     ap length (take-all (length mid - length M) (drop (length M) mid) (omega (arith, long, back))) ∙ back in
-    let none-left : drop (length mid - length M) (drop (length M) mid) ≡ [] =
-    no-entries (drop (length mid - length M) (drop (length M) mid)) (length-drop (length mid - length M) (drop (length M) mid) ∙ omega (arith, long, back)) in
-    (λ i. front i ++ ((z ∙ ap (λ (k : ℕ). replicate k 0) all) i ++ none-left i)) ∙ ap (λ (l : Bytes). M ++ l) (append-nil (replicate (length out - length M) 0))
+    lent-end mid zs (length M) (omega (arith, long)) ∙ (λ i. front i ++ (z ∙ ap (λ (k : ℕ). replicate k 0) all) i)
 
 -- the first zeros of many
 pub take-zeros : (t n : ℕ) → t ≤ n → take {A = ℕ} t (replicate n 0) ≡ replicate t 0

@@ -8,6 +8,7 @@ use native.Mathlib.Omega.{arith}
 use lib.ListN.{length, take, drop, length-append, length-drop, drop-of-length-le}
 use lib.Seq.{length-take-le, take-all, take-at, take-append-add}
 use Rattle.paper.specs.Strings.{Bytes, join}
+use Rattle.laws.proofs.Fronts.{lent-end}
 use Rattle.hash.specs.Fitted.{fitted}
 
 -- what was put at the front, cut to 16 bytes, is what fits
@@ -57,11 +58,8 @@ join-more i f = ap (λ (n : ℕ). join n f) (add-one i) ∙ ap (λ (n : ℕ). jo
 pub lent : (out y : Bytes) (at : ℕ) (ys : Bytes) → at ≤ length out → ys ≡ fitted (take (length out - at) (drop at out)) y
     → take at out ++ (ys ++ drop (length out - at) (drop at out)) ≡ take at out ++ fitted (drop at out) y
 lent out y at ys h e =
-    let rest : length (drop at out) ≡ length out - at = length-drop at out in
-    let all : take (length out - at) (drop at out) ≡ drop at out = take-all (length out - at) (drop at out) (omega arith) in
-    let none : drop (length out - at) (drop at out) ≡ [] = drop-of-length-le (drop at out) {i = length out - at} (omega arith) in
-    ap₂ (λ (u v : Bytes). take at out ++ (u ++ v)) (e ∙ ap (λ (u : Bytes). fitted u y) all) none
-    ∙ ap (λ (u : Bytes). take at out ++ u) (append-nil (fitted (drop at out) y))
+    let all : take (length out - at) (drop at out) ≡ drop at out = take-all (length out - at) (drop at out) (omega (arith, length-drop at out)) in
+    lent-end out ys at h ∙ ap (λ (u : Bytes). take at out ++ u) (e ∙ ap (λ (u : Bytes). fitted u y) all)
 
 pub lent-length : (out y : Bytes) (at : ℕ) → length y ≡ 16 → at ≤ length out → length (take at out ++ fitted (drop at out) y) ≡ length out
 lent-length out y at e h =

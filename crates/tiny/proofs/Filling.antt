@@ -6,17 +6,8 @@ use native.Mathlib.Numerals.{add-one}
 use native.Mathlib.Omega.{arith}
 use lib.Bits.{bitXor}
 use lib.ListN.{length, take, getD, set, replicate, length-append, List·getD-append}
-use lib.Seq.{set-at, take-suc, take-suc-set, length-take-le, getD-take, getD-append-add}
+use lib.Seq.{set-at, take-suc, length-take-le, getD-take, getD-append-add}
 use Rattle.paper.specs.Strings.{zip, _⊕_}
-
--- a store: one entry more of r is as in l
-pub take-more : (r l : List ℕ) (i v : ℕ) → i < length r → i < length l → take i r ≡ take i l → v ≡ getD l i 0 → take (i + 1) (set r i v) ≡ take (i + 1) l
-take-more r l i v h g e q =
-    ap (λ (n : ℕ). take n (set r i v)) (add-one i)
-    ∙ take-suc-set r i v h
-    ∙ ap₂ (λ (t : List ℕ) (w : ℕ). t ++ w ∷ []) e q
-    ∙ sym (take-suc l i 0 g)
-    ∙ ap (λ (n : ℕ). take n l) (sym (add-one i))
 
 -- a store after the first i entries of s, in a list of w that is zero from there on
 pub put : (w : ℕ) (s r : List ℕ) (i v : ℕ) → i ≤ length s → i < w → r ≡ take i s ++ replicate (w - i) 0

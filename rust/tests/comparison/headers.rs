@@ -22,6 +22,13 @@ fn answer_under(source: &mut Source, header: &[u8]) -> u32 {
     sealed.number
 }
 
+/// Holds sealing and opening to whether the header reads.
+#[track_caller]
+fn reads(source: &mut Source, header: &[u8], expected: bool, what: &str, number: usize) {
+    let answer = if expected { 0 } else { 3 };
+    assert_eq!(answer_under(source, header), answer, "{what} {number}");
+}
+
 fn strings(source: &mut Source, count: usize) -> Vec<Vec<u8>> {
     (0..count)
         .map(|_| {
@@ -37,12 +44,8 @@ fn every_count_to_17() {
     for count in 0..=17 {
         for _ in 0..8 {
             let header = header(&strings(&mut source, count));
-            let expected = if (1..=16).contains(&count) { 0 } else { 3 };
-            assert_eq!(
-                answer_under(&mut source, &header),
-                expected,
-                "count {count}"
-            );
+            let expected = (1..=16).contains(&count);
+            reads(&mut source, &header, expected, "count", count);
         }
     }
 }
@@ -51,12 +54,13 @@ fn every_count_to_17() {
 fn every_count_of_empty_strings() {
     let mut source = Source::new(12);
     for count in 0..=255 {
-        let header = header(&vec![[]; count]);
-        let expected = if (1..=16).contains(&count) { 0 } else { 3 };
-        assert_eq!(
-            answer_under(&mut source, &header),
+        let expected = (1..=16).contains(&count);
+        reads(
+            &mut source,
+            &header(&vec![[]; count]),
             expected,
-            "count {count}"
+            "count",
+            count,
         );
     }
 }
@@ -69,12 +73,7 @@ fn every_length_of_a_string() {
             header(&[source.bytes(length)]),
             header(&[source.bytes(3), source.bytes(length)]),
         ] {
-            let expected = if length <= 1_024 { 0 } else { 3 };
-            assert_eq!(
-                answer_under(&mut source, &header),
-                expected,
-                "length {length}"
-            );
+            reads(&mut source, &header, length <= 1_024, "length", length);
         }
     }
 }
@@ -97,11 +96,7 @@ fn headers_cut_and_lengthened() {
         source.bytes(2),
     ]);
     for length in 0..bytes.len() {
-        assert_eq!(
-            answer_under(&mut source, &bytes[..length]),
-            3,
-            "cut to {length}"
-        );
+        reads(&mut source, &bytes[..length], false, "cut to", length);
     }
     assert_eq!(answer_under(&mut source, &bytes), 0);
     for _ in 0..3 {

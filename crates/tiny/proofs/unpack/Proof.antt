@@ -6,8 +6,8 @@ use native.Mathlib.Omega.{arith}
 use borrow.Author.Needs.{needs}
 use lib.ListN.{length, take, drop, length-set, length-drop}
 use lib.Seq.{getD-drop}
+use Rattle.laws.proofs.Fronts.{take-more}
 use Rattle.laws.proofs.HalfBytes.{halfBytes, length-halfBytes}
-use Rattle.tiny.proofs.Filling.{take-more}
 use Rattle.tiny.proofs.unpack.Statement.{statement}
 use Rattle.tiny.proofs.unpack.Tie as tie
 
