@@ -151,7 +151,8 @@ fn unless_empty(item: &[u8]) -> usize {
 ///
 /// # Panics
 ///
-/// At a number that document 01 does not have. It is proved that there is none.
+/// At a number that document 01 does not have. The contracts of the three functions
+/// allow none: each equates it with the number of a definition in document 01's terms.
 fn done(number: u32) -> Result<(), Refusal> {
     if number == 0 {
         return Ok(());
