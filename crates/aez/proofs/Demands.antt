@@ -12,16 +12,16 @@ use denote.Ref.{now}
 use lib.Dec.{eqb, ltb}
 use lib.ListN.{length, take, drop, replicate, length-drop, length-append, length-replicate}
 use lib.Seq.{take-append-seam}
-use Rattle.paper.specs.Strings.{Bytes, Below, Digits, if_then_else_}
+use Rattle.paper.specs.Strings.{Bytes, Below}
 use Rattle.paper.specs.Figure6.{keyOf, E}
 use Rattle.paper.specs.Figure5.{encrypt, decrypt}
-use Rattle.paper.specs.Document01.{Outcome, readHeader, refused, done, longestSealed, sealing, opened, opening}
+use Rattle.paper.specs.Document01.{Outcome, refused, done, longestSealed, sealing, opened, opening}
 use Rattle.laws.proofs.Tables.{no-entries}
 use Rattle.laws.proofs.Demand3 as laws
 use Rattle.laws.proofs.Demand3.{Fixed}
 use Rattle.header.specs.Building.{outcome}
 use Rattle.header.specs.declared.Answer.{Answer}
-use Rattle.aez.specs.Settled.{unread, settledCommon, settledSealing, settledOpening}
+use Rattle.aez.specs.Settled.{settledCommon, settledSealing, settledOpening}
 use Rattle.aez.proofs.Settles.{Fits, sealing-fits, sealing-refused, sealing-done, sealing-then, opening-refused, opening-opened, opening-then, opening-fits, opening-most}
 use Rattle.aez.proofs.seal.Reads as seal-reads
 use Rattle.aez.proofs.«open».Reads as open-reads

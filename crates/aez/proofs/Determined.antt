@@ -14,9 +14,7 @@ use Rattle.tbc.specs.Meaning.{blocks}
 use Rattle.block.proofs.xor.Reads as block-xor
 use Rattle.block.proofs.double.Reads as block-double
 use Rattle.block.proofs.times.Reads as block-times
-use Rattle.block.proofs.two_to.Reads as block-two-to
 use Rattle.block.proofs.pad.Reads as block-pad
-use Rattle.block.proofs.pad_none.Reads as block-pad-none
 use Rattle.block.proofs.number.Reads as block-number
 use Rattle.block.proofs.load.Reads as block-load
 use Rattle.block.proofs.store.Reads as block-store
@@ -73,14 +71,8 @@ block-double-determined κs a z w e f p q = one p q
 pub block-times-determined : (κs : _) (a : _) (z w : _) (e f : _) → block-times.Learnt κs a z e → block-times.Learnt κs a w f → z ≡ w
 block-times-determined κs a z w e f p q = one p q
 
-pub block-two-to-determined : (κs : _) (a : _) (z w : _) (e f : _) → block-two-to.Learnt κs a z e → block-two-to.Learnt κs a w f → z ≡ w
-block-two-to-determined κs a z w e f p q = one p q
-
 pub block-pad-determined : (κs : _) (a : _) (z w : _) (e f : _) → block-pad.Learnt κs a z e → block-pad.Learnt κs a w f → z ≡ w
 block-pad-determined κs a z w e f p q = one p q
-
-pub block-pad-none-determined : (κs : _) (a : _) (z w : _) (e f : _) → block-pad-none.Learnt κs a z e → block-pad-none.Learnt κs a w f → z ≡ w
-block-pad-none-determined κs a z w e f p q = one p q
 
 pub block-number-determined : (κs : _) (a : _) (z w : _) (e f : _) → block-number.Learnt κs a z e → block-number.Learnt κs a w f → z ≡ w
 block-number-determined κs a z w e f p q = one p q

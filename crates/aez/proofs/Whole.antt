@@ -6,13 +6,12 @@ use mathlib.Core.Path.{_≡_, refl, ap, sym, _∙_}
 use Prim.Native.Nat.{ℕ, _+_, _-_, _*_, _≤_}
 use native.Mathlib.Omega.{arith}
 use borrow.Author.Tests.{le-ltb}
-use lib.Dec.{eqb}
-use lib.ListN.{length, take, drop, replicate, length-append, length-replicate}
-use Rattle.paper.specs.Strings.{Bytes, if_then_else_, same}
+use lib.ListN.{length, drop, replicate, length-append, length-replicate}
+use Rattle.paper.specs.Strings.{Bytes, if_then_else_}
 use Rattle.paper.specs.Figure6 as figure6
 use Rattle.paper.specs.Figure6.{BlockFunction, keyOf, E, AEZ-prf}
-use Rattle.paper.specs.Figure5.{delta, tweak, encrypt, decrypt, unpadded, decipher}
-use Rattle.paper.specs.Document01.{readHeader, done, sealing, opened, opening}
+use Rattle.paper.specs.Figure5.{delta, encrypt, decrypt, unpadded}
+use Rattle.paper.specs.Document01.{readHeader, sealing, opened, opening}
 use Rattle.header.specs.Building.{outcome}
 use Rattle.hash.specs.Delta.{deltaOf}
 use Rattle.aez.specs.Settled.{settledSealing, settledOpening}

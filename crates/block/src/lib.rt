@@ -1,11 +1,11 @@
 // Blocks of 16 bytes: sums, multiples, padding, numbers, and blocks in a slice.
 // The AEZ paper's section 7, NOTATION, and document 01, "Blocks".
-ghost use mathlib.Core.List.{[], _++_};
+ghost use mathlib.Core.List.{_++_};
 ghost use mathlib.Core.Path.{_≡_};
 ghost use Prim.Native.Nat.{_+_, _<_, _≤_};
 ghost use lib.ListN.{length, take, drop};
 ghost use Rattle.paper.specs.Strings.{_⊕_, pad10*, number};
-ghost use Rattle.paper.specs.Section7.{double, _·_, twoTo};
+ghost use Rattle.paper.specs.Section7.{double, _·_};
 
 // a ⊕ b.
 pub fn xor(a: [u8; 16], b: [u8; 16]) -> [u8; 16]
@@ -53,20 +53,6 @@ pub fn times(n: u64, x: [u8; 16]) -> [u8; 16]
     xor(even, x)
 }
 
-// 2^e·x: e doublings.
-pub fn two_to(e: u32, x: [u8; 16]) -> [u8; 16]
-    ensures { λ r. ⌜ r ≡ twoTo e x ⌝ }
-{
-    let mut r = x;
-    let mut i: u32 = 0;
-    while i < e {
-        let d = double(r);
-        r = d;
-        i += 1;
-    }
-    r
-}
-
 // s10*, for a string of less than 16 bytes.
 pub fn pad(s: &[u8]) -> [u8; 16]
     requires { ⌜ length (now s) < 16 ⌝ }
@@ -80,13 +66,6 @@ pub fn pad(s: &[u8]) -> [u8; 16]
     }
     r[i] = 128;
     r
-}
-
-// 10*: the padding of no bytes.
-pub fn pad_none() -> [u8; 16]
-    ensures { λ r. ⌜ r ≡ pad10* [] ⌝ }
-{
-    [128, 0, 0, 0, 0, 0, 0, 0, 0, 0, 0, 0, 0, 0, 0, 0]
 }
 
 // n as a block, high byte first.

@@ -1,10 +1,14 @@
--- The block function E of Figure 6, line by line.
+-- The block function E of Figure 6, line by line, and what the laws above it ask of a block function.
 use mathlib.Core.Path.{_≡_, refl}
 use Prim.Native.Nat.{ℕ, zero, suc, _-_, _*_, _≤_}
 use native.Mathlib.Omega.{arith}
-use Rattle.paper.specs.Strings.{Bytes, _⊕_}
+use Rattle.paper.specs.Strings.{Bytes, Block, _⊕_}
 use Rattle.paper.specs.Section7.{_·_, AES4, AES10}
-use Rattle.paper.specs.Figure6.{Key, minus1, row, k0, k1, k2, K10, masked, hashRow, E}
+use Rattle.paper.specs.Figure6.{Row, BlockFunction, Key, minus1, row, k0, k1, k2, K10, masked, hashRow, E}
+
+-- it gives a block for a block
+abbrev pub GivesBlocks : BlockFunction → Type 0
+GivesBlocks f = (r : Row) (j : ℕ) (X : Bytes) → Block X → Block (f r j X)
 
 module _ (K : Key) (X : Bytes) where
   -- 404

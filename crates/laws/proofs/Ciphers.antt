@@ -7,8 +7,9 @@ use borrow.Author.Tests.{ltb-true, ltb-false}
 use lib.Dec.{ltb}
 use lib.ListN.{length}
 use Rattle.paper.specs.Strings.{Bytes, Digits, Block, if_then_else_}
-use Rattle.paper.specs.Figure6.{Row, BlockFunction}
+use Rattle.paper.specs.Figure6.{BlockFunction}
 use Rattle.paper.specs.Figure5.{encipherTiny, decipherTiny, core, encipher, decipher}
+use Rattle.laws.proofs.BlockFunction.{GivesBlocks}
 use Rattle.laws.proofs.Tiny.{encipherTiny-bytes, decipherTiny-bytes, decipher-encipherTiny, encipher-decipherTiny}
 use Rattle.laws.proofs.CoreResult.{core-bytes}
 use Rattle.laws.proofs.CoreInverse.{core-core}
@@ -19,7 +20,7 @@ pub record Some (X : Bytes) : Type 0 where
   pub bytes : Digits 8 (length X) X
 
 module _
-    (E : BlockFunction) (E-block : (r : Row) (j : ℕ) (X : Bytes) → Block X → Block (E r j X)) (Δ : Bytes) (Δ-block : Block Δ) where
+    (E : BlockFunction) (E-block : GivesBlocks E) (Δ : Bytes) (Δ-block : Block Δ) where
   -- below 32 bytes, and from 32 on
   enciphered : Bool → Bytes → Bytes
   enciphered b X = if b then encipherTiny E Δ X else core E Δ 1 2 X
@@ -29,22 +30,22 @@ module _
 
   enciphered-bytes : (b : Bool) (X : Bytes) → ltb (length X) 32 ≡ b → Some X → Digits 8 (length X) (enciphered b X)
   unfolding enciphered
-  enciphered-bytes true X e p = encipherTiny-bytes E Δ Δ-block E-block (length X) X (p .least) (omega (arith, ltb-true (length X) 32 e)) (p .bytes)
+  enciphered-bytes true X e p = encipherTiny-bytes E E-block Δ Δ-block (length X) X (p .least) (omega (arith, ltb-true (length X) 32 e)) (p .bytes)
   enciphered-bytes false X e p = core-bytes E E-block Δ Δ-block 1 2 X (omega (arith, ltb-false (length X) 32 e)) (p .bytes)
 
   deciphered-bytes : (b : Bool) (X : Bytes) → ltb (length X) 32 ≡ b → Some X → Digits 8 (length X) (deciphered b X)
   unfolding deciphered
-  deciphered-bytes true X e p = decipherTiny-bytes E Δ Δ-block E-block (length X) X (p .least) (omega (arith, ltb-true (length X) 32 e)) (p .bytes)
+  deciphered-bytes true X e p = decipherTiny-bytes E E-block Δ Δ-block (length X) X (p .least) (omega (arith, ltb-true (length X) 32 e)) (p .bytes)
   deciphered-bytes false X e p = core-bytes E E-block Δ Δ-block 2 1 X (omega (arith, ltb-false (length X) 32 e)) (p .bytes)
 
   undone : (b : Bool) (X : Bytes) → ltb (length X) 32 ≡ b → Some X → deciphered b (enciphered b X) ≡ X
   unfolding enciphered deciphered
-  undone true X e p = decipher-encipherTiny E Δ Δ-block E-block (length X) X (p .least) (omega (arith, ltb-true (length X) 32 e)) (p .bytes)
+  undone true X e p = decipher-encipherTiny E E-block Δ Δ-block (length X) X (p .least) (omega (arith, ltb-true (length X) 32 e)) (p .bytes)
   undone false X e p = core-core E E-block Δ Δ-block 1 2 X (omega (arith, ltb-false (length X) 32 e)) (p .bytes)
 
   redone : (b : Bool) (X : Bytes) → ltb (length X) 32 ≡ b → Some X → enciphered b (deciphered b X) ≡ X
   unfolding enciphered deciphered
-  redone true X e p = encipher-decipherTiny E Δ Δ-block E-block (length X) X (p .least) (omega (arith, ltb-true (length X) 32 e)) (p .bytes)
+  redone true X e p = encipher-decipherTiny E E-block Δ Δ-block (length X) X (p .least) (omega (arith, ltb-true (length X) 32 e)) (p .bytes)
   redone false X e p = core-core E E-block Δ Δ-block 2 1 X (omega (arith, ltb-false (length X) 32 e)) (p .bytes)
 
   encipher-at : (X : Bytes) → encipher E Δ X ≡ enciphered (ltb (length X) 32) X

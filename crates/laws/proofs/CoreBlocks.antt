@@ -8,8 +8,9 @@ use borrow.Author.Tests.{eqb-true, leb-true, leb-false}
 use lib.Dec.{eqb, leb}
 use lib.ListN.{length}
 use Rattle.paper.specs.Strings.{Bytes, Digits, Block, if_then_else_, _⊕_, pad10*, sum}
-use Rattle.paper.specs.Figure6.{Row, minus1, row, BlockFunction}
-use Rattle.paper.specs.Figure5.{pairs, rest, Mu, Mv, Wᵢ, Xᵢ, X as Xall, Sx, Sy, S as Sall, S′ᵢ, Yᵢ, Zᵢ, C′ᵢ, Cᵢ, Cu, Cv, Y as Yall, Cy, Cx}
+use Rattle.paper.specs.Figure6.{minus1, row, BlockFunction}
+use Rattle.paper.specs.Figure5.{pairs, rest, Mu, Mv, Wᵢ, Xᵢ, Sx, Sy, S′ᵢ, Yᵢ, Zᵢ, C′ᵢ, Cᵢ, Cu, Cv, Cy, Cx, X as Xall, S as Sall, Y as Yall}
+use Rattle.laws.proofs.BlockFunction.{GivesBlocks}
 use Rattle.laws.proofs.Digits.{⊕-digits, ⊕-block, append-digits, zero-digits, as-digits}
 use Rattle.laws.proofs.Joins.{UpTo, sum-block}
 use Rattle.laws.proofs.CoreParts.{Mᵢ-block, M′ᵢ-block, Mx-block, My-block, Mu-bytes, Mv-bytes}
@@ -20,7 +21,7 @@ abbrev pub uvAdded : BlockFunction → ℕ → Bytes → Bytes → Bytes → Byt
 uvAdded E d s u v =
     if eqb d 0 then s else if leb d 15 then s ⊕ E (row 0) 4 (pad10* u) else s ⊕ E (row 0) 4 u ⊕ E (row 0) 5 (pad10* v)
 
-module _ (E : BlockFunction) (E-block : (r : Row) (j : ℕ) (X : Bytes) → Block X → Block (E r j X)) where
+module _ (E : BlockFunction) (E-block : GivesBlocks E) where
   -- u has d bytes or 16, v none or d - 16
   uvAdded-block : (d : ℕ) (s u v : Bytes) → d < 32 → Block s → ((b : Bool) → leb d 15 ≡ b → Digits 8 (if b then d else 16) u)
       → ((b : Bool) → leb d 15 ≡ b → Digits 8 (if b then 0 else d - 16) v) → Block (uvAdded E d s u v)

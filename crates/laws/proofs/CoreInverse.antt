@@ -9,8 +9,9 @@ use borrow.Author.Tests.{eqb-true, leb-true, leb-false}
 use lib.Dec.{eqb, leb}
 use lib.ListN.{length}
 use Rattle.paper.specs.Strings.{Bytes, Digits, Block, if_then_else_, _⊕_, sum, join}
-use Rattle.paper.specs.Figure6.{Row, minus1, row, BlockFunction}
-use Rattle.paper.specs.Figure5.{pairs, rest, Mᵢ, M′ᵢ, Mx, My, Mu, Mv, Wᵢ, Xᵢ, X as Xall, Sx, Sy, S as Sall, S′ᵢ, Yᵢ, Zᵢ, C′ᵢ, Cᵢ, Cu, Cv, Y as Yall, Cy, Cx, core}
+use Rattle.paper.specs.Figure6.{minus1, row, BlockFunction}
+use Rattle.paper.specs.Figure5.{pairs, rest, Mᵢ, M′ᵢ, Mx, My, Mu, Mv, Wᵢ, Xᵢ, Sx, Sy, S′ᵢ, Yᵢ, Zᵢ, C′ᵢ, Cᵢ, Cu, Cv, Cy, Cx, core, X as Xall, S as Sall, Y as Yall}
+use Rattle.laws.proofs.BlockFunction.{GivesBlocks}
 use Rattle.laws.proofs.Digits.{⊕-block}
 use Rattle.laws.proofs.Tables.{no-entries}
 use Rattle.laws.proofs.Strings.{⊕-assoc, ⊕-comm, ⊕-cancel}
@@ -30,7 +31,7 @@ thrice {A} {B} {C} {D} p q r s =
     regroup ∙ twice p (⊕-block (⊕-block q r) s)
 
 module _
-    (E : BlockFunction) (E-block : (r : Row) (j : ℕ) (X : Bytes) → Block X → Block (E r j X))
+    (E : BlockFunction) (E-block : GivesBlocks E)
     (Δ : Bytes) (Δ-block : Block Δ) (x y : ℕ) (M : Bytes) (long : 32 ≤ length M) (p : Digits 8 (length M) M) where
   abbrev m : ℕ
   m = pairs (length M)

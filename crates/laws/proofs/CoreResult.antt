@@ -8,8 +8,9 @@ use lib.Dec.{leb}
 use lib.ListN.{length, take, drop}
 use lib.Seq.{take-at, drop-at, take-take, drop-drop, take-add}
 use Rattle.paper.specs.Strings.{Bytes, Digits, Block, if_then_else_, join}
-use Rattle.paper.specs.Figure6.{Row, BlockFunction}
+use Rattle.paper.specs.Figure6.{BlockFunction}
 use Rattle.paper.specs.Figure5.{pairs, rest, Mᵢ, M′ᵢ, Muv, Mx, My, Mu, Mv, C′ᵢ, Cᵢ, Cu, Cv, Cy, Cx, core}
+use Rattle.laws.proofs.BlockFunction.{GivesBlocks}
 use Rattle.laws.proofs.Digits.{append-digits, as-digits}
 use Rattle.laws.proofs.Joins.{UpTo, join-digits, join-at}
 use Rattle.laws.proofs.CoreParts.{cut}
@@ -23,7 +24,7 @@ second l a b p q e =
     (front, sym (drop-at (take 16 l) (take 16 (drop 16 l)) 16 (ap length front ∙ p)) ∙ ap (drop 16) both ∙ drop-at a b 16 p)
 
 module _
-    (E : BlockFunction) (E-block : (r : Row) (j : ℕ) (X : Bytes) → Block X → Block (E r j X))
+    (E : BlockFunction) (E-block : GivesBlocks E)
     (Δ : Bytes) (Δ-block : Block Δ) (x y : ℕ) (M : Bytes) (long : 32 ≤ length M) (p : Digits 8 (length M) M) where
   abbrev m : ℕ
   m = pairs (length M)

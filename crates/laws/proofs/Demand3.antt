@@ -8,9 +8,10 @@ use mathlib.Core.Path.{_≡_, refl, ap, sym, _∙_}
 use Prim.Native.Nat.{ℕ, _+_, _≤_}
 use lib.ListN.{length}
 use Rattle.paper.specs.Strings.{Bytes, Below, Digits, Block}
-use Rattle.paper.specs.Figure6.{Row, keyOf, E, AEZ-prf}
+use Rattle.paper.specs.Figure6.{keyOf, E, AEZ-prf}
 use Rattle.paper.specs.Figure5.{tweak, delta, encrypt, decrypt}
 use Rattle.paper.specs.Document01.{readHeader, longestSealed, longestStretch}
+use Rattle.laws.proofs.BlockFunction.{GivesBlocks}
 use Rattle.laws.proofs.Headers.{read-readable}
 use Rattle.laws.proofs.KeyBlocks.{keyOf-bytes, E-block}
 use Rattle.laws.proofs.HashBlocks.{AllBytes, hash-block, prf-bytes, tweak-bytes, readable-bytes}
@@ -41,7 +42,7 @@ module _ (key header : Bytes) (strings : List Bytes) (stretch : ℕ) (fixed : Fi
     pub text : Below 256 M
     pub to : sealed M ≡ C
 
-  block-function : (r : Row) (j : ℕ) (X : Bytes) → Block X → Block (E (keyOf key) r j X)
+  block-function : GivesBlocks (E (keyOf key))
   block-function = E-block (keyOf-bytes (fixed .key-bytes))
 
   strings-bytes : AllBytes (tweak stretch strings)

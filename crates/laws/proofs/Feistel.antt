@@ -5,8 +5,9 @@ use native.Mathlib.Omega.{arith}
 use lib.ListN.{length, take, take-append-drop}
 use lib.Seq.{take-at, drop-at}
 use Rattle.paper.specs.Strings.{Bytes, Bits, Digits, Block, _⊕_, zeroFill, bits10*, numberBits}
-use Rattle.paper.specs.Figure6.{Row, row, BlockFunction}
+use Rattle.paper.specs.Figure6.{row, BlockFunction}
 use Rattle.paper.specs.Figure5.{Halves, halves, joined, tinyE, turn, turnsUp, turnsDown}
+use Rattle.laws.proofs.BlockFunction.{GivesBlocks}
 use Rattle.laws.proofs.Strings.{⊕-cancel}
 use Rattle.laws.proofs.Digits.{⊕-digits, append-digits, take-digits, drop-digits, zero-digits, as-digits}
 use Rattle.laws.proofs.BitBytes.{digits-bits, bits-digits, bytes-digits}
@@ -24,8 +25,7 @@ bits10*-digits {n} {X} h p = fill-digits {n = n + 1} (omega arith) (omega arith)
 -- ---- the block function on bits
 
 module _
-    (E : BlockFunction) (Δ : Bytes) (Δ-block : Block Δ)
-    (E-block : (r : Row) (j : ℕ) (X : Bytes) → Block X → Block (E r j X)) where
+    (E : BlockFunction) (E-block : GivesBlocks E) (Δ : Bytes) (Δ-block : Block Δ) where
   pub tinyE-digits : (j : ℕ) {X : Bits} → Digits 1 128 X → Digits 1 128 (tinyE E Δ j X)
   tinyE-digits j {X} p = bits-digits (E-block (row 0) j _ (bytes-digits 16 (⊕-digits (bits-digits Δ-block) p (omega arith))))
 
@@ -57,12 +57,11 @@ good-joined : {n : ℕ} {s : Halves} → Good n s → Digits 1 (n + n) (joined s
 good-joined g = append-digits (g .R) (g .L)
 
 module _
-    (E : BlockFunction) (Δ : Bytes) (Δ-block : Block Δ)
-    (E-block : (r : Row) (j : ℕ) (X : Bytes) → Block X → Block (E r j X))
+    (E : BlockFunction) (E-block : GivesBlocks E) (Δ : Bytes) (Δ-block : Block Δ)
     (n j : ℕ) (few : n ≤ 127) where
   -- what turn i adds to the left half
   added : (i : ℕ) {X : Bits} → Digits 1 n X → Digits 1 n (take n (tinyE E Δ j (bits10* X ⊕ numberBits i)))
-  added i p = take-digits n (omega arith) (tinyE-digits E Δ Δ-block E-block j (⊕-digits (bits10*-digits few p) (digits-bits 128 i) (omega arith)))
+  added i p = take-digits n (omega arith) (tinyE-digits E E-block Δ Δ-block j (⊕-digits (bits10*-digits few p) (digits-bits 128 i) (omega arith)))
 
   good-turn : (i : ℕ) {s : Halves} → Good n s → Good n (turn E Δ n j i s)
   unfolding turn

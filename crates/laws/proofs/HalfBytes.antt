@@ -12,8 +12,9 @@ use lib.Dec.{T, ltb, ltb→lt}
 use lib.ListN.{length, getD, take, drop, replicate, length-append, length-drop, length-replicate, take-append-drop}
 use lib.Seq.{take-at, drop-at, length-take-le}
 use Rattle.paper.specs.Strings.{Bytes, Bits, Digits, Block, if_then_else_, zip, _⊕_, _or_, _and_, zeroFill, bits0*, bits10*, pad10*, digits, number, numberBits, bits, bytes}
-use Rattle.paper.specs.Figure6.{Row, row, BlockFunction}
+use Rattle.paper.specs.Figure6.{row, BlockFunction}
 use Rattle.paper.specs.Figure5.{Halves, tinyRounds, tinyIndex, halves, joined, tinyE, turn, turnsUp, turnsDown, lastStep, encipherTiny, decipherTiny}
+use Rattle.laws.proofs.BlockFunction.{GivesBlocks}
 use Rattle.laws.proofs.Strings.{⊕-length}
 use Rattle.laws.proofs.Digits.{⊕-digits, ⊕-block, append-digits, zero-digits, as-digits}
 use Rattle.laws.proofs.BitStrings.{length-digits, down, digits-down, bits-mod, length-bits, bits-append, bytes-bits}
@@ -307,8 +308,7 @@ bits-number n = sym (bits-digits256 16 n)
 -- ---- the last step
 
 module _
-    (E : BlockFunction) (Δ : Bytes) (Δ-block : Block Δ)
-    (E-block : (r : Row) (j : ℕ) (X : Bytes) → Block X → Block (E r j X)) where
+    (E : BlockFunction) (E-block : GivesBlocks E) (Δ : Bytes) (Δ-block : Block Δ) where
   tinyE-bytes : (j : ℕ) {Y : Bytes} → Block Y → tinyE E Δ j (bits Y) ≡ bits (E (row 0) j (Δ ⊕ Y))
   tinyE-bytes j {Y} p =
       ap (λ (X : Bits). bits (E (row 0) j (bytes X))) (sym (bits-⊕ Δ Y))
@@ -374,8 +374,7 @@ pub record Even (n : ℕ) (s : Halves) : Type 0 where
   pub R : length (s .R) ≡ n
 
 module _
-    (E : BlockFunction) (Δ : Bytes) (Δ-block : Block Δ)
-    (E-block : (r : Row) (j : ℕ) (X : Bytes) → Block X → Block (E r j X))
+    (E : BlockFunction) (E-block : GivesBlocks E) (Δ : Bytes) (Δ-block : Block Δ)
     (n j : ℕ) (few : n ≤ 31) where
   module _ (i : ℕ) (R : List ℕ) (long : length R ≡ n) where
     padded : Block (wholeBytes (half10* R) ⊕ number i)
@@ -397,7 +396,7 @@ module _
         ∙ fours-take n (halfBytes (halfE E Δ j i R)) reach
       where
         whole : tinyE E Δ j (bits (wholeBytes (half10* R) ⊕ number i)) ≡ bits (halfE E Δ j i R)
-        whole = unfold halfE in tinyE-bytes E Δ Δ-block E-block j padded
+        whole = unfold halfE in tinyE-bytes E E-block Δ Δ-block j padded
 
   even-turn : (i : ℕ) {s : Halves} → Even n s → Even n (halfTurn E Δ n j i s)
   unfolding halfTurn
@@ -455,8 +454,7 @@ module _ (n : ℕ) {s : Halves} (g : Even n s) where
 -- ---- AEZ-tiny
 
 module _
-    (E : BlockFunction) (Δ : Bytes) (Δ-block : Block Δ)
-    (E-block : (r : Row) (j : ℕ) (X : Bytes) → Block X → Block (E r j X))
+    (E : BlockFunction) (E-block : GivesBlocks E) (Δ : Bytes) (Δ-block : Block Δ)
     (n : ℕ) (M : Bytes) (some : 1 ≤ n) (few : n ≤ 31) (p : Digits 8 n M) where
   half : 8 * n / 2 ≡ 4 * n
   half = omega arith
@@ -464,51 +462,50 @@ module _
   pub halvesUp-digits : Digits 8 n (halvesUp E Δ n M)
   unfolding halvesUp
   halvesUp-digits =
-      wholeBytes-digits n _ (joined-long n (even-up E Δ Δ-block E-block n (tinyIndex (8 * n)) few (tinyRounds (8 * n)) (halves n (halfBytes M)) (even-halves n M (p .len))))
+      wholeBytes-digits n _ (joined-long n (even-up E E-block Δ Δ-block n (tinyIndex (8 * n)) few (tinyRounds (8 * n)) (halves n (halfBytes M)) (even-halves n M (p .len))))
 
   pub halvesDown-digits : Digits 8 n (halvesDown E Δ n M)
   unfolding halvesDown
   halvesDown-digits =
-      wholeBytes-digits n _ (joined-long n (even-down E Δ Δ-block E-block n (tinyIndex (8 * n)) few (tinyRounds (8 * n)) (halves n (halfBytes M)) (even-halves n M (p .len))))
+      wholeBytes-digits n _ (joined-long n (even-down E E-block Δ Δ-block n (tinyIndex (8 * n)) few (tinyRounds (8 * n)) (halves n (halfBytes M)) (even-halves n M (p .len))))
 
   up-bits : joined (turnsUp E Δ (4 * n) (tinyIndex (8 * n)) (tinyRounds (8 * n)) (halves (4 * n) (bits M))) ≡ bits (halvesUp E Δ n M)
   unfolding halvesUp
   up-bits =
       let g = even-halves n M (p .len) in
       ap (λ (s : Halves). joined (turnsUp E Δ (4 * n) (tinyIndex (8 * n)) (tinyRounds (8 * n)) s)) (halves-fours n M (p .len))
-      ∙ ap joined (up-fours E Δ Δ-block E-block n (tinyIndex (8 * n)) few (tinyRounds (8 * n)) (halves n (halfBytes M)) g)
-      ∙ joined-fours n (even-up E Δ Δ-block E-block n (tinyIndex (8 * n)) few (tinyRounds (8 * n)) (halves n (halfBytes M)) g)
+      ∙ ap joined (up-fours E E-block Δ Δ-block n (tinyIndex (8 * n)) few (tinyRounds (8 * n)) (halves n (halfBytes M)) g)
+      ∙ joined-fours n (even-up E E-block Δ Δ-block n (tinyIndex (8 * n)) few (tinyRounds (8 * n)) (halves n (halfBytes M)) g)
 
   down-bits : joined (turnsDown E Δ (4 * n) (tinyIndex (8 * n)) (tinyRounds (8 * n)) (halves (4 * n) (bits M))) ≡ bits (halvesDown E Δ n M)
   unfolding halvesDown
   down-bits =
       let g = even-halves n M (p .len) in
       ap (λ (s : Halves). joined (turnsDown E Δ (4 * n) (tinyIndex (8 * n)) (tinyRounds (8 * n)) s)) (halves-fours n M (p .len))
-      ∙ ap joined (down-fours E Δ Δ-block E-block n (tinyIndex (8 * n)) few (tinyRounds (8 * n)) (halves n (halfBytes M)) g)
-      ∙ joined-fours n (even-down E Δ Δ-block E-block n (tinyIndex (8 * n)) few (tinyRounds (8 * n)) (halves n (halfBytes M)) g)
+      ∙ ap joined (down-fours E E-block Δ Δ-block n (tinyIndex (8 * n)) few (tinyRounds (8 * n)) (halves n (halfBytes M)) g)
+      ∙ joined-fours n (even-down E E-block Δ Δ-block n (tinyIndex (8 * n)) few (tinyRounds (8 * n)) (halves n (halfBytes M)) g)
 
 module _
-    (E : BlockFunction) (Δ : Bytes) (Δ-block : Block Δ)
-    (E-block : (r : Row) (j : ℕ) (X : Bytes) → Block X → Block (E r j X))
+    (E : BlockFunction) (E-block : GivesBlocks E) (Δ : Bytes) (Δ-block : Block Δ)
     (n : ℕ) (M : Bytes) (some : 1 ≤ n) (few : n ≤ 31) (p : Digits 8 n M) where
   -- enciphering on half-bytes
   pub encipherTiny-halfBytes : encipherTiny E Δ M ≡ lastBytes E Δ (halvesUp E Δ n M)
   unfolding encipherTiny
   encipherTiny-halfBytes =
-      let q = halvesUp-digits E Δ Δ-block E-block n M some few p in
+      let q = halvesUp-digits E E-block Δ Δ-block n M some few p in
       ap (λ (k : ℕ). bytes (lastStep E Δ (8 * k) (joined (turnsUp E Δ (8 * k / 2) (tinyIndex (8 * k)) (tinyRounds (8 * k)) (halves (8 * k / 2) (bits M)))))) (p .len)
-      ∙ ap (λ (h : ℕ). bytes (lastStep E Δ (8 * n) (joined (turnsUp E Δ h (tinyIndex (8 * n)) (tinyRounds (8 * n)) (halves h (bits M)))))) (half E Δ Δ-block E-block n M some few p)
-      ∙ ap (λ (X : Bits). bytes (lastStep E Δ (8 * n) X)) (up-bits E Δ Δ-block E-block n M some few p)
-      ∙ ap bytes (last-bits E Δ Δ-block E-block n some q)
-      ∙ bytes-bits (lastBytes E Δ (halvesUp E Δ n M)) (lastBytes-digits E Δ Δ-block E-block n some q .low)
+      ∙ ap (λ (h : ℕ). bytes (lastStep E Δ (8 * n) (joined (turnsUp E Δ h (tinyIndex (8 * n)) (tinyRounds (8 * n)) (halves h (bits M)))))) (half E E-block Δ Δ-block n M some few p)
+      ∙ ap (λ (X : Bits). bytes (lastStep E Δ (8 * n) X)) (up-bits E E-block Δ Δ-block n M some few p)
+      ∙ ap bytes (last-bits E E-block Δ Δ-block n some q)
+      ∙ bytes-bits (lastBytes E Δ (halvesUp E Δ n M)) (lastBytes-digits E E-block Δ Δ-block n some q .low)
 
   -- deciphering on half-bytes
   pub decipherTiny-halfBytes : decipherTiny E Δ M ≡ halvesDown E Δ n (lastBytes E Δ M)
   unfolding decipherTiny
   decipherTiny-halfBytes =
-      let q = lastBytes-digits E Δ Δ-block E-block n some p in
+      let q = lastBytes-digits E E-block Δ Δ-block n some p in
       ap (λ (k : ℕ). bytes (joined (turnsDown E Δ (8 * k / 2) (tinyIndex (8 * k)) (tinyRounds (8 * k)) (halves (8 * k / 2) (lastStep E Δ (8 * k) (bits M)))))) (p .len)
-      ∙ ap (λ (h : ℕ). bytes (joined (turnsDown E Δ h (tinyIndex (8 * n)) (tinyRounds (8 * n)) (halves h (lastStep E Δ (8 * n) (bits M)))))) (half E Δ Δ-block E-block n M some few p)
-      ∙ ap (λ (X : Bits). bytes (joined (turnsDown E Δ (4 * n) (tinyIndex (8 * n)) (tinyRounds (8 * n)) (halves (4 * n) X)))) (last-bits E Δ Δ-block E-block n some p)
-      ∙ ap bytes (down-bits E Δ Δ-block E-block n (lastBytes E Δ M) some few q)
-      ∙ bytes-bits (halvesDown E Δ n (lastBytes E Δ M)) (halvesDown-digits E Δ Δ-block E-block n (lastBytes E Δ M) some few q .low)
+      ∙ ap (λ (h : ℕ). bytes (joined (turnsDown E Δ h (tinyIndex (8 * n)) (tinyRounds (8 * n)) (halves h (lastStep E Δ (8 * n) (bits M)))))) (half E E-block Δ Δ-block n M some few p)
+      ∙ ap (λ (X : Bits). bytes (joined (turnsDown E Δ (4 * n) (tinyIndex (8 * n)) (tinyRounds (8 * n)) (halves (4 * n) X)))) (last-bits E E-block Δ Δ-block n some p)
+      ∙ ap bytes (down-bits E E-block Δ Δ-block n (lastBytes E Δ M) some few q)
+      ∙ bytes-bits (halvesDown E Δ n (lastBytes E Δ M)) (halvesDown-digits E E-block Δ Δ-block n (lastBytes E Δ M) some few q .low)

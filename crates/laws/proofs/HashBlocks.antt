@@ -8,8 +8,9 @@ use borrow.Author.Tests.{eqb-true, eqb-false}
 use lib.Dec.{eqb}
 use lib.ListN.{length, drop, length-take, length-drop}
 use Rattle.paper.specs.Strings.{Bytes, Below, Digits, Block, if_then_else_, _⊕_, pad10*, number, sum}
-use Rattle.paper.specs.Figure6.{Row, minus1, row, BlockFunction, blockAt, hashString, hashFrom, AEZ-hash, prfFrom, AEZ-prf}
+use Rattle.paper.specs.Figure6.{minus1, row, BlockFunction, blockAt, hashString, hashFrom, AEZ-hash, prfFrom, AEZ-prf}
 use Rattle.paper.specs.Figure5.{tweak}
+use Rattle.laws.proofs.BlockFunction.{GivesBlocks}
 use Rattle.laws.proofs.Digits.{⊕-block, take-digits, zero-digits, as-digits, below-take, below-drop}
 use Rattle.laws.proofs.Joins.{sum-block, join-bytes}
 use Rattle.laws.proofs.Padding.{pad-block}
@@ -36,7 +37,7 @@ full-before n m j e a b = omega arith
 full-inner : (n j : ℕ) → 1 ≤ j → j ≤ max 1 ((n + 15) / 16) - 1 → min 16 (n - 16 * (j - 1)) ≡ 16
 full-inner n j a b = omega arith
 
-module _ (f : BlockFunction) (f-block : (r : Row) (j : ℕ) (X : Bytes) → Block X → Block (f r j X)) where
+module _ (f : BlockFunction) (f-block : GivesBlocks f) where
   -- lines 303 to 306
   string-block : (i : ℕ) (T : Bytes) → Below 256 T → Block (hashString f i T)
   unfolding hashString

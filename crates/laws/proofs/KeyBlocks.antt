@@ -7,7 +7,8 @@ use native.Mathlib.Omega.{arith}
 use lib.Dec.{eqb}
 use Rattle.paper.specs.Strings.{Bytes, Below, Digits, Block, if_then_else_, _⊕_, digits, number, bits}
 use Rattle.paper.specs.Section7.{zeros, msb, double, timesBits, _·_, twoTo}
-use Rattle.paper.specs.Figure6.{Row, minus1, row, Key, keyOf, k0, k1, k2, K10, masked, hashRow, E}
+use Rattle.paper.specs.Figure6.{minus1, row, Key, keyOf, k0, k1, k2, K10, masked, hashRow, E}
+use Rattle.laws.proofs.BlockFunction.{GivesBlocks}
 use Rattle.laws.proofs.Digits.{⊕-block, take-digits, drop-digits, zero-digits, below-append}
 use Rattle.laws.proofs.BitStrings.{length-digits}
 use Rattle.laws.proofs.Multiples.{shift-block}
@@ -89,7 +90,7 @@ module _ (K : Key) (k : KeyBytes K) where
   hashRow-block i zero p = AES-block (k0 K) k0-blocks (⊕-block p (times-block ((i - 2) * 8) (k .J)))
   hashRow-block i (suc j) p = AES-block (k0 K) k0-blocks (⊕-block (masked-block (suc j) p) (times-block ((i - 2) * 8) (k .J)))
 
-pub E-block : {K : Key} → KeyBytes K → (r : Row) (j : ℕ) (X : Bytes) → Block X → Block (E K r j X)
+pub E-block : {K : Key} → KeyBytes K → GivesBlocks (E K)
 unfolding E
 E-block {K} k minus1 j X p = AES-block (K10 K) (K10-blocks K k) (⊕-block p (times-block j (k .J)))
 E-block {K} k (row zero) j X p = AES-block (k0 K) (k0-blocks K k) (⊕-block p (times-block j (k .J)))

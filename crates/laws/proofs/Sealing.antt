@@ -11,8 +11,9 @@ use lib.Dec.{eqb, ltb}
 use lib.ListN.{length, take, drop, replicate, length-append, length-replicate, length-drop, take-append-drop}
 use lib.Seq.{take-append-seam, drop-append-seam}
 use Rattle.paper.specs.Strings.{Bytes, Below, Digits, Block, if_then_else_, same}
-use Rattle.paper.specs.Figure6.{Row, BlockFunction, AEZ-prf}
+use Rattle.paper.specs.Figure6.{BlockFunction, AEZ-prf}
 use Rattle.paper.specs.Figure5.{tweak, delta, encipher, decipher, encrypt, unpadded, decrypt}
+use Rattle.laws.proofs.BlockFunction.{GivesBlocks}
 use Rattle.laws.proofs.Tables.{no-entries}
 use Rattle.laws.proofs.Digits.{append-digits, take-digits, zero-digits, as-digits}
 use Rattle.laws.proofs.Ciphers.{Some, encipher-bytes, decipher-bytes, decipher-encipher, encipher-decipher}
@@ -44,7 +45,7 @@ same-equal (x ∷ X) (y ∷ Y) e =
 -- ---- sealing and opening
 
 module _
-    (E : BlockFunction) (E-block : (r : Row) (j : ℕ) (X : Bytes) → Block X → Block (E r j X))
+    (E : BlockFunction) (E-block : GivesBlocks E)
     (NA : List Bytes) (t : ℕ) (Δ-block : Block (delta E NA t)) (prf-long : Digits 8 t (AEZ-prf E (tweak t NA) t)) where
   abbrev Δ : Bytes
   Δ = delta E NA t

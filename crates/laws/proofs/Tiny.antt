@@ -9,8 +9,9 @@ use lib.Bits.{bitXor, bitOr, bitAnd, xor-zero-r, and-zero-r, and-lt, or-lt}
 use lib.Dec.{T, ltb, ltb→lt}
 use lib.ListN.{length, replicate}
 use Rattle.paper.specs.Strings.{Bytes, Bits, Below, Digits, Block, if_then_else_, zip, _⊕_, _or_, _and_, zeroFill, bits0*, bits10*, bits, bytes}
-use Rattle.paper.specs.Figure6.{Row, BlockFunction}
+use Rattle.paper.specs.Figure6.{BlockFunction}
 use Rattle.paper.specs.Figure5.{tinyRounds, tinyIndex, tinyE, lastStep, encipherTiny, decipherTiny}
+use Rattle.laws.proofs.BlockFunction.{GivesBlocks}
 use Rattle.laws.proofs.Strings.{⊕-cancel}
 use Rattle.laws.proofs.Digits.{⊕-digits, as-digits}
 use Rattle.laws.proofs.BitStrings.{bytes-bits}
@@ -63,8 +64,7 @@ hidden (c ∷ C) (t ∷ G) h p q =
 -- ---- the last step
 
 module _
-    (E : BlockFunction) (Δ : Bytes) (Δ-block : Block Δ)
-    (E-block : (r : Row) (j : ℕ) (X : Bytes) → Block X → Block (E r j X)) where
+    (E : BlockFunction) (E-block : GivesBlocks E) (Δ : Bytes) (Δ-block : Block Δ) where
   -- E of C with its first bit set
   abbrev over : Bits → Bits
   over C = tinyE E Δ 3 (bits0* C or bits10* [])
@@ -79,7 +79,7 @@ module _
 
     over-digits : m ≤ 128 → Digits 1 128 (over C)
     unfolding _or_
-    over-digits h = tinyE-digits E Δ Δ-block E-block 3 (zip-digits bitOr 1 (or-lt 1) (fill-digits some h p) one)
+    over-digits h = tinyE-digits E E-block Δ Δ-block 3 (zip-digits bitOr 1 (or-lt 1) (fill-digits some h p) one)
 
     mask-digits : m ≤ 128 → Digits 1 128 (mask C)
     unfolding _and_
@@ -130,8 +130,7 @@ module _ (E : BlockFunction) (Δ : Bytes) (n : ℕ) where
     decipherTiny-down = ap (λ (k : ℕ). bytes (back E Δ (8 * k / 2) (tinyIndex (8 * k)) (tinyRounds (8 * k)) (lastStep E Δ (8 * k) (bits M)))) (p .len)
 
 module _
-    (E : BlockFunction) (Δ : Bytes) (Δ-block : Block Δ)
-    (E-block : (r : Row) (j : ℕ) (X : Bytes) → Block X → Block (E r j X))
+    (E : BlockFunction) (E-block : GivesBlocks E) (Δ : Bytes) (Δ-block : Block Δ)
     (n : ℕ) (some : 1 ≤ n) (few : n ≤ 31) where
   some-bits : 1 ≤ 8 * n
   some-bits = omega arith
@@ -145,10 +144,10 @@ module _
   module _ {X : Bits} (p : Digits 1 (8 * n) X) where
     forth-all : Digits 1 (8 * n) (forth E Δ (8 * n / 2) (tinyIndex (8 * n)) (tinyRounds (8 * n)) X)
     forth-all =
-        as-digits (sym half) (forth-digits E Δ Δ-block E-block (8 * n / 2) (tinyIndex (8 * n)) few-bits (tinyRounds (8 * n)) (as-digits half p))
+        as-digits (sym half) (forth-digits E E-block Δ Δ-block (8 * n / 2) (tinyIndex (8 * n)) few-bits (tinyRounds (8 * n)) (as-digits half p))
 
     last-all : Digits 1 (8 * n) (lastStep E Δ (8 * n) X)
-    last-all = lastStep-digits E Δ Δ-block E-block (8 * n) some-bits p
+    last-all = lastStep-digits E E-block Δ Δ-block (8 * n) some-bits p
 
   module _ {X : Bits} (p : Digits 1 (8 * n) X) where
     up-digits : Digits 1 (8 * n) (up E Δ n X)
@@ -157,44 +156,43 @@ module _
     down-digits : Digits 1 (8 * n) (down E Δ n X)
     down-digits =
         as-digits (sym half)
-        (back-digits E Δ Δ-block E-block (8 * n / 2) (tinyIndex (8 * n)) few-bits (tinyRounds (8 * n)) (as-digits half (last-all p)))
+        (back-digits E E-block Δ Δ-block (8 * n / 2) (tinyIndex (8 * n)) few-bits (tinyRounds (8 * n)) (as-digits half (last-all p)))
 
     down-up : down E Δ n (up E Δ n X) ≡ X
     down-up =
         ap (back E Δ (8 * n / 2) (tinyIndex (8 * n)) (tinyRounds (8 * n)))
-        (lastStep-lastStep E Δ Δ-block E-block (8 * n) some-bits (forth-all p))
-        ∙ back-forth E Δ Δ-block E-block (8 * n / 2) (tinyIndex (8 * n)) few-bits (tinyRounds (8 * n)) (as-digits half p)
+        (lastStep-lastStep E E-block Δ Δ-block (8 * n) some-bits (forth-all p))
+        ∙ back-forth E E-block Δ Δ-block (8 * n / 2) (tinyIndex (8 * n)) few-bits (tinyRounds (8 * n)) (as-digits half p)
 
     up-down : up E Δ n (down E Δ n X) ≡ X
     up-down =
         ap (lastStep E Δ (8 * n))
-        (forth-back E Δ Δ-block E-block (8 * n / 2) (tinyIndex (8 * n)) few-bits (tinyRounds (8 * n)) (as-digits half (last-all p)))
-        ∙ lastStep-lastStep E Δ Δ-block E-block (8 * n) some-bits p
+        (forth-back E E-block Δ Δ-block (8 * n / 2) (tinyIndex (8 * n)) few-bits (tinyRounds (8 * n)) (as-digits half (last-all p)))
+        ∙ lastStep-lastStep E E-block Δ Δ-block (8 * n) some-bits p
 
 -- ---- AEZ-tiny
 
 module _
-    (E : BlockFunction) (Δ : Bytes) (Δ-block : Block Δ)
-    (E-block : (r : Row) (j : ℕ) (X : Bytes) → Block X → Block (E r j X))
+    (E : BlockFunction) (E-block : GivesBlocks E) (Δ : Bytes) (Δ-block : Block Δ)
     (n : ℕ) (M : Bytes) (some : 1 ≤ n) (few : n ≤ 31) (p : Digits 8 n M) where
   pub encipherTiny-bytes : Digits 8 n (encipherTiny E Δ M)
-  encipherTiny-bytes = rw (encipherTiny-up E Δ n p) (bytes-digits n (up-digits E Δ Δ-block E-block n some few (bits-digits p)))
+  encipherTiny-bytes = rw (encipherTiny-up E Δ n p) (bytes-digits n (up-digits E E-block Δ Δ-block n some few (bits-digits p)))
 
   pub decipherTiny-bytes : Digits 8 n (decipherTiny E Δ M)
-  decipherTiny-bytes = rw (decipherTiny-down E Δ n p) (bytes-digits n (down-digits E Δ Δ-block E-block n some few (bits-digits p)))
+  decipherTiny-bytes = rw (decipherTiny-down E Δ n p) (bytes-digits n (down-digits E E-block Δ Δ-block n some few (bits-digits p)))
 
   pub decipher-encipherTiny : decipherTiny E Δ (encipherTiny E Δ M) ≡ M
   decipher-encipherTiny =
       decipherTiny-down E Δ n encipherTiny-bytes
       ∙ ap (λ (C : Bytes). bytes (down E Δ n (bits C))) (encipherTiny-up E Δ n p)
-      ∙ ap (λ (X : Bits). bytes (down E Δ n X)) (bits-bytes n (up-digits E Δ Δ-block E-block n some few (bits-digits p)))
-      ∙ ap bytes (down-up E Δ Δ-block E-block n some few (bits-digits p))
+      ∙ ap (λ (X : Bits). bytes (down E Δ n X)) (bits-bytes n (up-digits E E-block Δ Δ-block n some few (bits-digits p)))
+      ∙ ap bytes (down-up E E-block Δ Δ-block n some few (bits-digits p))
       ∙ bytes-bits M (p .low)
 
   pub encipher-decipherTiny : encipherTiny E Δ (decipherTiny E Δ M) ≡ M
   encipher-decipherTiny =
       encipherTiny-up E Δ n decipherTiny-bytes
       ∙ ap (λ (C : Bytes). bytes (up E Δ n (bits C))) (decipherTiny-down E Δ n p)
-      ∙ ap (λ (X : Bits). bytes (up E Δ n X)) (bits-bytes n (down-digits E Δ Δ-block E-block n some few (bits-digits p)))
-      ∙ ap bytes (up-down E Δ Δ-block E-block n some few (bits-digits p))
+      ∙ ap (λ (X : Bits). bytes (up E Δ n X)) (bits-bytes n (down-digits E E-block Δ Δ-block n some few (bits-digits p)))
+      ∙ ap bytes (up-down E E-block Δ Δ-block n some few (bits-digits p))
       ∙ bytes-bits M (p .low)

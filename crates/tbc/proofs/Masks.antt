@@ -5,8 +5,8 @@ use Prim.Native.Nat.{ℕ, zero, suc, _%_, _≤_}
 use native.Mathlib.Omega.{arith}
 use Rattle.paper.specs.Strings.{Bytes, if_then_else_, _⊕_}
 use Rattle.paper.specs.Section7.{_·_}
-use Rattle.paper.specs.Figure6.{Row, minus1, row, Defined, masked}
-use Rattle.tbc.specs.Meaning.{blocks, rowOf, Running}
+use Rattle.paper.specs.Figure6.{Row, minus1, row, masked}
+use Rattle.tbc.specs.Meaning.{blocks, rowOf, Plain, Running}
 use Rattle.tbc.specs.declared.Key.{Key}
 use Rattle.tbc.specs.declared.Pair.{Pair}
 
@@ -16,15 +16,15 @@ row-of p n e f = ap₂ (λ (b : Bool) (m : ℕ). if b then minus1 else row m) e 
 pub row-minus : (p : Pair) → p .0 ≡ true → rowOf p ≡ minus1
 row-minus p e = ap (λ (b : Bool). if b then minus1 else row (p .1)) e
 
-defined-from3 : (i j : ℕ) → Defined (row i) j → (i ≡ 0 → ⊥) → j ≡ 0 → 3 ≤ i
-defined-from3 zero j h g e = absurd (g refl)
-defined-from3 (suc zero) j h g e = absurd (omega arith)
-defined-from3 (suc (suc zero)) j h g e = absurd (omega arith)
-defined-from3 (suc (suc (suc i))) j h g e = omega arith
+plain-row : (i j : ℕ) → Plain (row i) j → (i ≡ 0 → ⊥) → (3 ≤ i) × (j ≡ 0)
+plain-row zero j h g = absurd (g refl)
+plain-row (suc zero) j h g = absurd h
+plain-row (suc (suc zero)) j h g = absurd h
+plain-row (suc (suc (suc i))) j h g = (omega arith, h)
 
--- where the figure defines a pair with the second index 0, its row is 0 or from 3 on
-pub from3 : (p : Pair) → Defined (rowOf p) (p .2) → p .0 ≡ false → (p .1 ≡ 0 → ⊥) → p .2 ≡ 0 → 3 ≤ p .1
-from3 p h e g z = defined-from3 (p .1) (p .2) (subst (λ (r : Row). Defined r (p .2)) (row-of p (p .1) e refl) h) g z
+-- a plain pair of another row than -1 and 0 is one of line 409
+pub at-409 : (p : Pair) → Plain (rowOf p) (p .2) → p .0 ≡ false → (p .1 ≡ 0 → ⊥) → (3 ≤ p .1) × (p .2 ≡ 0)
+at-409 p h e g = plain-row (p .1) (p .2) (subst (λ (r : Row). Plain r (p .2)) (row-of p (p .1) e refl) h) g
 
 -- the mask of lines 406 and 408, from what the calls return
 pub mask : (k : Key) (p : Pair) (power x low y m : Bytes) → Running k p power

@@ -1,7 +1,7 @@
 -- What the structs of `tbc` stand for in Figure 6.
 use mathlib.Core.Bool.{Bool, false}
 use mathlib.Core.Path.{_≡_}
-use Prim.Native.Nat.{ℕ, _-_, _/_, _%_, _≤_}
+use Prim.Native.Nat.{ℕ, zero, suc, _-_, _/_, _%_, _≤_}
 use lib.Dec.{eqb}
 use Rattle.paper.specs.Strings.{Bytes, if_then_else_}
 use Rattle.paper.specs.Section7.{double, twoTo}
@@ -25,6 +25,14 @@ rowOf p = if p .0 then minus1 else row (p .1)
 -- the power that follows the power for b
 abbrev pub nextPower : ℕ → Bytes → Bytes
 nextPower b power = if eqb (b % 8) 0 then double power else power
+
+-- the pairs whose mask has no power of L: lines 404, 405 and 409, where the figure defines them
+abbrev pub Plain : Row → ℕ → Type 0
+Plain minus1 j = j ≤ 7
+Plain (row zero) j = j ≤ 7
+Plain (row (suc zero)) j = ⊥
+Plain (row (suc (suc zero))) j = ⊥
+Plain (row (suc (suc (suc i)))) j = j ≡ 0
 
 -- the pair whose second index counts up from 1 in a row from 1 on, and the power of L that goes with it
 pub record Running (k : Key) (p : Pair) (power : Bytes) : Type 0 where

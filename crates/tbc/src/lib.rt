@@ -4,8 +4,8 @@ ghost use Prim.Native.Nat.{_+_, _-_, _*_, _<_, _≤_};
 ghost use lib.ListN.{length};
 ghost use Rattle.paper.specs.Strings.{_⊕_};
 ghost use Rattle.paper.specs.Section7.{_·_, AES4};
-ghost use Rattle.paper.specs.Figure6.{keyOf, k0, k1, k2, K10, Defined, E};
-ghost use Rattle.tbc.specs.Meaning.{blocks, pair, rowOf, nextPower, Running};
+ghost use Rattle.paper.specs.Figure6.{keyOf, k0, k1, k2, K10, E};
+ghost use Rattle.tbc.specs.Meaning.{blocks, pair, rowOf, nextPower, Plain, Running};
 
 // The key: the blocks I, J and L.
 pub struct Key {
@@ -171,9 +171,9 @@ pub fn e_running(k: Key, p: Pair, power: [u8; 16], x: [u8; 16]) -> [u8; 16]
     under_multiple(k, row_number(row), masked)
 }
 
-// E for any pair that Figure 6 defines.
+// E for a pair whose mask has no power of L: lines 404, 405 and 409.
 pub fn e(k: Key, p: Pair, x: [u8; 16]) -> [u8; 16]
-    requires { ⌜ Defined (rowOf p) (p .2) ⌝ }
+    requires { ⌜ Plain (rowOf p) (p .2) ⌝ }
     ensures { λ r. ⌜ r ≡ E (blocks k) (rowOf p) (p .2) x ⌝ }
 {
     let row = p.1;
@@ -188,10 +188,5 @@ pub fn e(k: Key, p: Pair, x: [u8; 16]) -> [u8; 16]
     if row == 0 {
         return under_multiple(k, number as u64, x);
     }
-    if number == 0 {
-        return under_multiple(k, row_number(row), x);
-    }
-    let l = k.l;
-    let power = block::two_to((number - 1) / 8, l);
-    e_running(k, p, power, x)
+    under_multiple(k, row_number(row), x)
 }

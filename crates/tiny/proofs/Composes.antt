@@ -17,8 +17,8 @@ module _ (k : Key) (key : KeyBytes (blocks k)) (delta : Bytes) (block : Block de
 
   pub decipher-undoes : t ≡ encipherTiny (E (blocks k)) delta s → u ≡ decipherTiny (E (blocks k)) delta t → u ≡ s
   decipher-undoes a b =
-      b ∙ ap (decipherTiny (E (blocks k)) delta) a ∙ decipher-encipherTiny (E (blocks k)) delta block (E-block key) (length s) s least most all
+      b ∙ ap (decipherTiny (E (blocks k)) delta) a ∙ decipher-encipherTiny (E (blocks k)) (E-block key) delta block (length s) s least most all
 
   pub encipher-undoes : t ≡ decipherTiny (E (blocks k)) delta s → u ≡ encipherTiny (E (blocks k)) delta t → u ≡ s
   encipher-undoes a b =
-      b ∙ ap (encipherTiny (E (blocks k)) delta) a ∙ encipher-decipherTiny (E (blocks k)) delta block (E-block key) (length s) s least most all
+      b ∙ ap (encipherTiny (E (blocks k)) delta) a ∙ encipher-decipherTiny (E (blocks k)) (E-block key) delta block (length s) s least most all

@@ -2,5 +2,4 @@ mod Filling
 mod FirstByte
 mod Indices
 mod AllTurns
-mod Keys
 pub mod Composes

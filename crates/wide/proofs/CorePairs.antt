@@ -7,7 +7,7 @@ use lib.ListN.{length, take, drop, length-append, length-drop}
 use lib.Seq.{length-take-le, take-all, take-at, drop-at, take-take, drop-drop, take-add}
 use Rattle.paper.specs.Strings.{Bytes, _⊕_, sum, join}
 use Rattle.paper.specs.Figure6.{row, BlockFunction}
-use Rattle.paper.specs.Figure5.{pairs, Mᵢ, M′ᵢ, Wᵢ, Xᵢ, S as Sall, S′ᵢ, Yᵢ, Zᵢ, C′ᵢ, Cᵢ}
+use Rattle.paper.specs.Figure5.{pairs, Mᵢ, M′ᵢ, Wᵢ, Xᵢ, S′ᵢ, Yᵢ, Zᵢ, C′ᵢ, Cᵢ, S as Sall}
 use Rattle.laws.proofs.Strings.{⊕-length}
 use Rattle.laws.proofs.Joins.{UpTo, sum-ext, join-ext, join-at}
 use Rattle.laws.proofs.CoreParts.{cut}

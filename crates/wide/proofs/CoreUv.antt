@@ -10,7 +10,7 @@ use lib.ListN.{length, take, drop, length-append, length-drop}
 use lib.Seq.{length-take-le, take-all, take-at, drop-at, drop-drop}
 use Rattle.paper.specs.Strings.{Bytes, if_then_else_, _⊕_, pad10*, sum}
 use Rattle.paper.specs.Figure6.{minus1, row, BlockFunction}
-use Rattle.paper.specs.Figure5.{pairs, rest, Muv, My, Xᵢ, X as Xall, Sx, Sy, S as Sall, Yᵢ, Cu, Cv, Y as Yall, Cy, Cx}
+use Rattle.paper.specs.Figure5.{pairs, rest, Muv, My, Xᵢ, Sx, Sy, Yᵢ, Cu, Cv, Cy, Cx, X as Xall, S as Sall, Y as Yall}
 use Rattle.laws.proofs.CoreParts.{cut}
 use Rattle.wide.specs.Uv.{uOf, vOf, withUv, uMasked, vMasked}
 use Rattle.wide.specs.Ends.{sxOf, syOf, cxOf, cyOf}

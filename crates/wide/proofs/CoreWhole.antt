@@ -7,7 +7,7 @@ use lib.ListN.{length, take, drop, length-append, take-append-drop}
 use lib.Seq.{take-all, drop-at, drop-drop}
 use Rattle.paper.specs.Strings.{Bytes, _⊕_, sum, join}
 use Rattle.paper.specs.Figure6.{row, BlockFunction}
-use Rattle.paper.specs.Figure5.{pairs, rest, Muv, Wᵢ, Xᵢ, X as Xall, Sx, Sy, S as Sall, Yᵢ, C′ᵢ, Cᵢ, Cu, Cv, Y as Yall, Cy, Cx, core}
+use Rattle.paper.specs.Figure5.{pairs, rest, Muv, Wᵢ, Xᵢ, Sx, Sy, Yᵢ, C′ᵢ, Cᵢ, Cu, Cv, Cy, Cx, core, X as Xall, S as Sall, Y as Yall}
 use Rattle.laws.proofs.CoreParts.{cut}
 use Rattle.laws.proofs.Joins.{join-long}
 use Rattle.wide.specs.Pairs.{firstX, firstPair, secondY, secondPair, pairAt, pairSum, paired}

@@ -1,4 +1,3 @@
-mod Rows
 mod Stores
 mod UvParts
 mod Masks

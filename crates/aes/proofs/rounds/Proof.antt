@@ -1,10 +1,10 @@
 -- `aes::rounds` meets its contract. The invariant: s has had the rounds of the keys before key i.
-use mathlib.Core.List.{List, []}
+use mathlib.Core.List.{List}
 use mathlib.Core.Path.{_≡_, refl, ap, ap₂, sym, _∙_}
 use Prim.Native.Nat.{suc, _-_, _≤_}
 use native.Mathlib.Omega.{arith}
 use borrow.Author.Needs.{needs}
-use lib.ListN.{length, take, drop, getD}
+use lib.ListN.{length, take, drop}
 use Rattle.paper.specs.Strings.{Bytes, _⊕_}
 use Rattle.paper.specs.Section7.{aesenc, rounds}
 use Rattle.laws.proofs.Round.{rounds-more, AES-rounds}

@@ -1,5 +1,5 @@
 -- `aez::aez_log_header` meets its contract.
-use mathlib.Core.Path.{_≡_, ap}
+use mathlib.Core.Path.{ap}
 use borrow.Author.Needs.{needs}
 use Rattle.paper.specs.Document01.{Outcome}
 use Rattle.aez.proofs.aez_log_header.Statement.{statement}

@@ -1,10 +1,8 @@
 -- `aez::decrypt_empty` meets its contract.
-use mathlib.Core.Path.{_≡_, refl, ap, sym, _∙_}
-use Prim.Native.Nat.{ℕ, _-_, _≤_}
-use native.Mathlib.Omega.{arith}
+use mathlib.Core.Path.{refl, ap, _∙_}
+use Prim.Native.Nat.{ℕ}
 use borrow.Author.Needs.{needs}
 use lib.ListN.{length, replicate}
-use Rattle.paper.specs.Strings.{Bytes}
 use Rattle.paper.specs.Figure6.{E}
 use Rattle.tbc.specs.Meaning.{blocks}
 use Rattle.aez.proofs.Branches.{empty-opens}

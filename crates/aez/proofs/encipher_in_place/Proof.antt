@@ -1,14 +1,8 @@
 -- `aez::encipher_in_place` meets its contract.
-use mathlib.Core.Path.{_≡_, ap, sym, _∙_}
-use mathlib.Core.Bool.{Bool}
+use mathlib.Core.Path.{_∙_}
 use borrow.Author.Needs.{needs}
 use borrow.Author.Tests.{lt-ltb, le-ltb}
-use lib.Dec.{ltb}
-use lib.ListN.{length}
-use Rattle.paper.specs.Strings.{Bytes, if_then_else_}
-use Rattle.paper.specs.Figure6.{E}
-use Rattle.paper.specs.Figure5.{core, encipherTiny, encipher}
-use Rattle.tbc.specs.Meaning.{blocks}
+use Rattle.paper.specs.Figure5.{encipher}
 use Rattle.aez.proofs.encipher_in_place.Statement.{statement}
 use Rattle.aez.proofs.encipher_in_place.Tie as tie
 

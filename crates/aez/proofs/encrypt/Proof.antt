@@ -1,10 +1,8 @@
 -- `aez::encrypt` meets its contract.
-use mathlib.Core.Path.{_≡_, refl, ap, sym, _∙_}
-use Prim.Native.Nat.{ℕ, _-_, _≤_}
-use native.Mathlib.Omega.{arith}
+use mathlib.Core.Path.{ap, sym, _∙_}
+use Prim.Native.Nat.{_-_}
 use borrow.Author.Needs.{needs}
 use lib.ListN.{length}
-use Rattle.paper.specs.Strings.{Bytes}
 use Rattle.paper.specs.Figure6.{E}
 use Rattle.tbc.specs.Meaning.{blocks}
 use Rattle.paper.specs.Figure5.{encipher}

@@ -1,4 +1,5 @@
 -- `hash::full_blocks` meets its contract. The invariant: the blocks before the j-th are summed, and the power is the j-th's.
+use mathlib.Core.Bool.{false}
 use mathlib.Core.List.{List}
 use mathlib.Core.Path.{_≡_, refl, ap, ap₂, sym, _∙_}
 use Prim.Native.Nat.{ℕ, _+_, _-_, _*_, _/_, _≤_}
@@ -13,7 +14,7 @@ use Rattle.laws.proofs.Multiples.{twoTo-zero}
 use Rattle.tbc.specs.Meaning.{blocks, pair}
 use Rattle.tbc.specs.declared.Pair.{Pair}
 use Rattle.tbc.proofs.Powers.{next}
-use Rattle.hash.proofs.Rows.{at-pair, running}
+use Rattle.tbc.proofs.Pairs.{at-pair, running}
 use Rattle.hash.proofs.full_blocks.Statement.{statement}
 use Rattle.hash.proofs.full_blocks.Tie as tie
 
@@ -44,7 +45,7 @@ e-running-requires : tie.Need-e-running-requires Inv-loop μ-loop
 e-running-requires c κs =
     let l = c .before .before .before .loop in
     let a = c .before .before .before .before .before .before .before .args in
-    running (a .k) (c .at .result) (l .power) (a .i) (l .j) (l .inv .0) (c .at .ensures ∙ ap (λ (q : Pair). pair (q .0) (q .1) (l .j)) (c .before .before .before .before .before .string .ensures)) (l .inv .4)
+    running (c .at .result) (2 + a .i) (l .j) (c .at .ensures ∙ ap (λ (q : Pair). pair (q .0) (q .1) (l .j)) (c .before .before .before .before .before .string .ensures)) (a .k) (l .power) (omega arith) (l .inv .0) (l .inv .4)
 
 xor-requires : tie.Need-xor-requires Inv-loop μ-loop
 xor-requires c κs = search needs
@@ -68,7 +69,7 @@ loop-again c =
     let t : List ℕ = a .t .now in
     let p = c .before .before .before .at .ensures ∙ ap (λ (q : Pair). pair (q .0) (q .1) (l .j)) (c .before .before .before .before .before .before .before .before .string .ensures) in
     let x : c .before .before .before .before .load .result ≡ blockAt t (l .j) = c .before .before .before .before .load .ensures ∙ ap (λ (n : ℕ). take 16 (drop n t)) (l .inv .1) in
-    let term = c .before .before .e-running .ensures ∙ at-pair (blocks (a .k)) _ (a .i) (l .j) _ p ∙ ap (E (blocks (a .k)) (row (2 + a .i)) (l .j)) x in (
+    let term = c .before .before .e-running .ensures ∙ at-pair _ false (2 + a .i) (l .j) p (blocks (a .k)) _ ∙ ap (E (blocks (a .k)) (row (2 + a .i)) (l .j)) x in (
       omega arith,
       omega (arith, l .inv .1),
       omega arith,

@@ -1,11 +1,13 @@
 -- `hash::with_short` meets its contract.
+use mathlib.Core.Bool.{false}
 use mathlib.Core.Path.{ap, _∙_}
 use Prim.Native.Nat.{_+_}
 use borrow.Author.Needs.{needs}
 use Rattle.paper.specs.Strings.{Bytes, _⊕_}
 use Rattle.paper.specs.Figure6.{row, E}
 use Rattle.tbc.specs.Meaning.{blocks}
-use Rattle.hash.proofs.Rows.{defined, at-pair}
+use Rattle.tbc.proofs.Pairs.{at-pair, plain}
+use Rattle.hash.proofs.Rows.{plain-from3}
 use Rattle.hash.proofs.with_short.Statement.{statement}
 use Rattle.hash.proofs.with_short.Tie as tie
 
@@ -18,7 +20,7 @@ pad-requires c κs = search needs
 e-requires : tie.Need-e-requires
 e-requires c κs =
     let a = c .before .before .before .args in
-    defined _ (a .i) 0 (search needs) (c .before .string .ensures)
+    plain _ false (2 + a .i) 0 (c .before .string .ensures) (plain-from3 (a .i) (search needs))
 
 xor-requires : tie.Need-xor-requires
 xor-requires c κs = search needs
@@ -26,7 +28,7 @@ xor-requires c κs = search needs
 returns : tie.Need-returns
 returns c =
     let a = c .before .before .before .before .before .args in
-    let last = c .before .e .ensures ∙ at-pair (blocks (a .k)) _ (a .i) 0 _ (c .before .before .before .string .ensures) ∙ ap (E (blocks (a .k)) (row (2 + a .i)) 0) (c .before .before .pad .ensures) in
+    let last = c .before .e .ensures ∙ at-pair _ false (2 + a .i) 0 (c .before .before .before .string .ensures) (blocks (a .k)) _ ∙ ap (E (blocks (a .k)) (row (2 + a .i)) 0) (c .before .before .pad .ensures) in
     c .xor .ensures ∙ ap (λ (l : Bytes). a .full ⊕ l) last
 
 pub with-short-spec : {M : Type 1} → statement M

@@ -1,8 +1,6 @@
 -- `known_answers::number` is safe and ends.
-use mathlib.Core.Path.{_≡_, refl, _∙_}
-use Prim.Native.Nat.{ℕ, _-_, _≤_}
-use native.Mathlib.Omega.{arith}
-use lib.ListN.{length, length-set}
+use Prim.Native.Nat.{_-_, _≤_}
+use lib.ListN.{length}
 use borrow.Author.Needs.{needs}
 use Rattle.known_answers.proofs.number.Statement.{statement}
 use Rattle.known_answers.proofs.number.Tie as tie

@@ -7,7 +7,7 @@ use Rattle.paper.specs.Section7.{_·_, AES}
 use Rattle.paper.specs.Figure6.{Row, k0, E}
 use Rattle.laws.proofs.BlockFunction.{E-404, E-405, E-409}
 use Rattle.tbc.specs.Meaning.{blocks}
-use Rattle.tbc.proofs.Masks.{row-of, row-minus, from3}
+use Rattle.tbc.proofs.Masks.{row-of, row-minus, at-409}
 use Rattle.tbc.proofs.e.Statement.{statement}
 use Rattle.tbc.proofs.e.Tie as tie
 
@@ -48,32 +48,21 @@ returns-2 c =
 
 row-number-requires : tie.Need-row-number-requires
 row-number-requires c κs =
-    let p = c .before .before .before .args .p in
-    from3 p (c .before .before .before .pre) (c .before .before .if1 .left) (c .before .if2 .left) (c .if3 .taken)
+    let s = c .before .before in
+    at-409 (s .args .p) (s .pre) (c .before .if1 .left) (c .if2 .left) .0
 
 under-multiple-requires-2 : tie.Need-under-multiple-requires-2
 under-multiple-requires-2 c κs = search needs
 
 returns-3 : tie.Need-returns-3
 returns-3 c =
-    let a = c .before .before .before .before .before .args in
-    let none = c .before .before .if3 .taken in
-    let high = from3 (a .p) (c .before .before .before .before .before .pre) (c .before .before .before .before .if1 .left) (c .before .before .before .if2 .left) none in
+    let s = c .before .before .before .before in
+    let a = s .args in
+    let plus = c .before .before .before .if1 .left in
+    let at = at-409 (a .p) (s .pre) plus (c .before .before .if2 .left) in
     c .under-multiple2 .ensures
     ∙ ap (λ (n : ℕ). AES (k0 (blocks (a .k))) (a .x ⊕ n · a .k .j)) (c .before .row-number .ensures)
-    ∙ sym (ap₂ (λ (r : Row) (j : ℕ). E (blocks (a .k)) r j (a .x)) (row-of (a .p) (a .p .1) (c .before .before .before .before .if1 .left) refl) none ∙ E-409 (blocks (a .k)) (a .x) (a .p .1) high)
-
-sub-two-to : tie.Need-sub-two-to
-sub-two-to c = search needs
-
-two-to-requires : tie.Need-two-to-requires
-two-to-requires c κs = search needs
-
-e-running-requires : tie.Need-e-running-requires
-e-running-requires c κs = search needs
-
-returns-4 : tie.Need-returns-4
-returns-4 c = search needs
+    ∙ sym (ap₂ (λ (r : Row) (j : ℕ). E (blocks (a .k)) r j (a .x)) (row-of (a .p) (a .p .1) plus refl) (at .1) ∙ E-409 (blocks (a .k)) (a .x) (a .p .1) (at .0))
 
 pub e-spec : {M : Type 1} → statement M
 e-spec =
@@ -90,8 +79,4 @@ e-spec =
     returns-2
     row-number-requires
     under-multiple-requires-2
-    returns-3
-    sub-two-to
-    two-to-requires
-    e-running-requires
-    returns-4)
+    returns-3)

@@ -12,7 +12,7 @@ use Rattle.laws.proofs.KeyBlocks.{E-block}
 use Rattle.block.proofs.Arrays.{array-bytes}
 use Rattle.tbc.specs.Meaning.{blocks}
 use Rattle.tiny.proofs.AllTurns.{down-all}
-use Rattle.tiny.proofs.Keys.{key-bytes}
+use Rattle.tbc.proofs.Keys.{key-bytes}
 use Rattle.tiny.proofs.decipher.Statement.{statement}
 use Rattle.tiny.proofs.decipher.Tie as tie
 
@@ -43,11 +43,11 @@ returns c =
     let known = c .before .before .before .before .before .before .before .before .before .before .before .slice-known .given in
     let M-bytes : Digits 8 n M = record { len = refl; low = below-of 256 M (λ i h. omega (arith, known i)) } in
     let last = c .before .before .before .before .before .before .before .before .before .last-step .ensures in
-    let long = ap length last ∙ lastBytes-digits f (a .delta) block key n (omega arith) M-bytes .len in
+    let long = ap length last ∙ lastBytes-digits f key (a .delta) block n (omega arith) M-bytes .len in
     let both = c .before .before .before .before .before .halves-of in
     let t = c .before .before .before .before .turns in
     down-all f (a .delta) n (both .result) (t .result) last long (both .ensures) (t .ensures) (c .before .before .put-joined .ensures)
-    ∙ sym (decipherTiny-halfBytes f (a .delta) block key n M (omega arith) (omega arith) M-bytes)
+    ∙ sym (decipherTiny-halfBytes f key (a .delta) block n M (omega arith) (omega arith) M-bytes)
 
 pub decipher-spec : {M : Type 1} → statement M
 decipher-spec =

@@ -1,4 +1,5 @@
 -- `tiny::e_of_turn` meets its contract.
+use mathlib.Core.Bool.{false}
 use mathlib.Core.Path.{ap, ap₂, _∙_}
 use Prim.Native.Nat.{_*_}
 use borrow.Author.Needs.{needs}
@@ -7,7 +8,8 @@ use Rattle.paper.specs.Figure6.{row, E}
 use Rattle.paper.specs.Figure5.{tinyIndex}
 use Rattle.laws.proofs.HalfBytes.{wholeBytes, halfE}
 use Rattle.tbc.specs.Meaning.{blocks}
-use Rattle.tiny.proofs.Indices.{defined, at-pair}
+use Rattle.tbc.proofs.Pairs.{at-pair, plain}
+use Rattle.tiny.proofs.Indices.{index-le}
 use Rattle.tiny.proofs.e_of_turn.Statement.{statement}
 use Rattle.tiny.proofs.e_of_turn.Tie as tie
 
@@ -32,7 +34,7 @@ xor-requires-2 c κs = search needs
 e-requires : tie.Need-e-requires
 e-requires c κs =
     let a = c .before .before .before .before .before .before .args in
-    defined _ (8 * a .n) (c .before .before .before .before .before .pair-for .ensures)
+    plain _ false 0 (tinyIndex (8 * a .n)) (c .before .before .before .before .before .pair-for .ensures) (index-le (8 * a .n))
 
 returns : tie.Need-returns
 unfolding halfE
@@ -41,7 +43,7 @@ returns c =
     let x = c .before .before .before .before .pack .ensures ∙ ap wholeBytes (c .before .before .before .before .before .pad .ensures) in
     let y = c .before .xor2 .ensures ∙ ap (λ (Y : Bytes). a .delta ⊕ Y) (c .before .before .xor .ensures ∙ ap₂ _⊕_ x (c .before .before .before .number .ensures)) in
     c .e .ensures
-    ∙ at-pair _ (8 * a .n) (c .before .before .before .before .before .before .pair-for .ensures) (blocks (a .k)) _
+    ∙ at-pair _ false 0 (tinyIndex (8 * a .n)) (c .before .before .before .before .before .before .pair-for .ensures) (blocks (a .k)) _
     ∙ ap (E (blocks (a .k)) (row 0) (tinyIndex (8 * a .n))) y
 
 pub e-of-turn-spec : {M : Type 1} → statement M

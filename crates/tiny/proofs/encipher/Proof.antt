@@ -12,7 +12,7 @@ use Rattle.laws.proofs.KeyBlocks.{E-block}
 use Rattle.block.proofs.Arrays.{array-bytes}
 use Rattle.tbc.specs.Meaning.{blocks}
 use Rattle.tiny.proofs.AllTurns.{up-all}
-use Rattle.tiny.proofs.Keys.{key-bytes}
+use Rattle.tbc.proofs.Keys.{key-bytes}
 use Rattle.tiny.proofs.encipher.Statement.{statement}
 use Rattle.tiny.proofs.encipher.Tie as tie
 
@@ -47,7 +47,7 @@ returns c =
     let turned = up-all f (a .delta) n (both .result) (t .result) refl refl (both .ensures) (t .ensures) (c .before .before .before .before .before .before .put-joined .ensures) in
     c .before .before .last-step .ensures
     ∙ ap (lastBytes f (a .delta)) turned
-    ∙ sym (encipherTiny-halfBytes f (a .delta) block key n M (omega arith) (omega arith) M-bytes)
+    ∙ sym (encipherTiny-halfBytes f key (a .delta) block n M (omega arith) (omega arith) M-bytes)
 
 pub encipher-spec : {M : Type 1} → statement M
 encipher-spec =

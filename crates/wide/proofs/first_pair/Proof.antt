@@ -1,4 +1,5 @@
 -- `wide::first_pair` meets its contract.
+use mathlib.Core.Bool.{false}
 use mathlib.Core.List.{_++_}
 use mathlib.Core.Path.{_≡_, ap, ap₂, _∙_}
 use native.Mathlib.Omega.{arith}
@@ -8,7 +9,7 @@ use Rattle.paper.specs.Strings.{Bytes, _⊕_}
 use Rattle.paper.specs.Figure6.{row, E}
 use Rattle.tbc.specs.Meaning.{blocks}
 use Rattle.wide.specs.Pairs.{firstW, firstX}
-use Rattle.wide.proofs.Rows.{at-pair, running}
+use Rattle.tbc.proofs.Pairs.{at-pair, running}
 use Rattle.wide.proofs.Stores.{stored}
 use Rattle.wide.proofs.first_pair.Statement.{statement}
 use Rattle.wide.proofs.first_pair.Tie as tie
@@ -25,7 +26,7 @@ at-requires c κs = search needs
 e-running-requires : tie.Need-e-running-requires
 e-running-requires c κs =
     let s = c .before .before .before .before .before .before in
-    running (s .args .k) (c .at .result) (s .args .power) 1 (s .args .b) (omega arith) (s .pre .0) (c .at .ensures) (s .pre .2)
+    running (c .at .result) 1 (s .args .b) (c .at .ensures) (s .args .k) (s .args .power) (omega arith) (s .pre .0) (s .pre .2)
 
 xor-requires : tie.Need-xor-requires
 xor-requires c κs = search needs
@@ -53,7 +54,7 @@ returns c =
     let P : Bytes = s .args .part .now in
     let right = c .before .before .before .before .before .before .before .before .before .before .before .before .before .load2 .ensures in
     let W : c .before .before .before .before .before .before .before .before .before .before .xor .result ≡ firstW f (s .args .b) P =
-    c .before .before .before .before .before .before .before .before .before .before .xor .ensures ∙ ap₂ _⊕_ (c .before .before .before .before .before .before .before .before .before .before .before .before .before .before .before .load .ensures) (c .before .before .before .before .before .before .before .before .before .before .before .e-running .ensures ∙ at-pair (blocks (s .args .k)) _ 1 (s .args .b) _ (c .before .before .before .before .before .before .before .before .before .before .before .before .at .ensures) ∙ ap (f (row 1) (s .args .b)) right) in
+    c .before .before .before .before .before .before .before .before .before .before .xor .ensures ∙ ap₂ _⊕_ (c .before .before .before .before .before .before .before .before .before .before .before .before .before .before .before .load .ensures) (c .before .before .before .before .before .before .before .before .before .before .before .e-running .ensures ∙ at-pair _ false 1 (s .args .b) (c .before .before .before .before .before .before .before .before .before .before .before .before .at .ensures) (blocks (s .args .k)) _ ∙ ap (f (row 1) (s .args .b)) right) in
     let X : c .before .before .before .before .before .before .before .before .xor2 .result ≡ firstX f (s .args .b) P =
     c .before .before .before .before .before .before .before .before .xor2 .ensures ∙ ap₂ _⊕_ right (c .before .before .before .before .before .before .before .before .before .e .ensures ∙ ap (f (row 0) 0) W) in
     let long : length (c .before .before .before .before .before .before .before .before .before .before .xor .result) ≡ 16 = search needs in

@@ -1,11 +1,12 @@
 -- `wide::middle` meets its contract.
+use mathlib.Core.Bool.{true, false}
 use mathlib.Core.Path.{_≡_, ap, ap₂, _∙_}
 use borrow.Author.Needs.{needs}
 use Rattle.paper.specs.Strings.{Bytes, _⊕_}
 use Rattle.paper.specs.Figure6.{minus1, row, E}
 use Rattle.tbc.specs.Meaning.{blocks}
 use Rattle.wide.specs.Ends.{sxOf, syOf}
-use Rattle.wide.proofs.Rows.{at-pair, at-minus, defined-0, defined-minus}
+use Rattle.tbc.proofs.Pairs.{at-pair, plain}
 use Rattle.wide.proofs.middle.Statement.{statement}
 use Rattle.wide.proofs.middle.Tie as tie
 
@@ -19,7 +20,7 @@ at-requires : tie.Need-at-requires
 at-requires c κs = search needs
 
 e-requires : tie.Need-e-requires
-e-requires c κs = defined-0 (c .at .result) (c .before .before .before .before .args .x) (c .at .ensures) (c .before .before .before .before .pre .0)
+e-requires c κs = plain (c .at .result) false 0 (c .before .before .before .before .args .x) (c .at .ensures) (c .before .before .before .before .pre .0)
 
 xor-requires : tie.Need-xor-requires
 xor-requires c κs = search needs
@@ -34,7 +35,7 @@ at-requires-2 : tie.Need-at-requires-2
 at-requires-2 c κs = search needs
 
 e-requires-2 : tie.Need-e-requires-2
-e-requires-2 c κs = defined-minus (c .at2 .result) (c .before .before .before .before .before .before .before .before .before .args .x) (c .at2 .ensures) (c .before .before .before .before .before .before .before .before .before .pre .0)
+e-requires-2 c κs = plain (c .at2 .result) true 1 (c .before .before .before .before .before .before .before .before .before .args .x) (c .at2 .ensures) (c .before .before .before .before .before .before .before .before .before .pre .0)
 
 xor-requires-4 : tie.Need-xor-requires-4
 xor-requires-4 c κs = search needs
@@ -47,8 +48,8 @@ returns c =
     let my = c .before .before .before .before .before .before .before .before .load2 .ensures in
     let both = c .before .before .before .before .xor2 .ensures ∙ ap (λ (l : Bytes). l ⊕ a .total) (c .before .before .before .before .before .xor .ensures ∙ ap (λ (l : Bytes). l ⊕ a .delta) (c .before .before .before .before .before .before .before .before .before .load .ensures)) in
     let sx : c .before .before .before .xor3 .result ≡ sxOf f (a .delta) (a .x) (a .total) (a .last .now) =
-    c .before .before .before .xor3 .ensures ∙ ap₂ _⊕_ both (c .before .before .before .before .before .before .e .ensures ∙ at-pair (blocks (a .k)) _ 0 (a .x) _ (c .before .before .before .before .before .before .before .at .ensures) ∙ ap (f (row 0) (a .x)) my) in
-    (sx, c .xor4 .ensures ∙ ap₂ _⊕_ my (c .before .e2 .ensures ∙ at-minus (blocks (a .k)) _ (a .x) _ (c .before .before .at2 .ensures) ∙ ap (f minus1 (a .x)) sx))
+    c .before .before .before .xor3 .ensures ∙ ap₂ _⊕_ both (c .before .before .before .before .before .before .e .ensures ∙ at-pair _ false 0 (a .x) (c .before .before .before .before .before .before .before .at .ensures) (blocks (a .k)) _ ∙ ap (f (row 0) (a .x)) my) in
+    (sx, c .xor4 .ensures ∙ ap₂ _⊕_ my (c .before .e2 .ensures ∙ at-pair _ true 1 (a .x) (c .before .before .at2 .ensures) (blocks (a .k)) _ ∙ ap (f minus1 (a .x)) sx))
 
 pub middle-spec : {M : Type 1} → statement M
 middle-spec =

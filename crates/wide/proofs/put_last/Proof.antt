@@ -1,4 +1,5 @@
 -- `wide::put_last` meets its contract.
+use mathlib.Core.Bool.{true, false}
 use mathlib.Core.List.{_++_}
 use mathlib.Core.Path.{_≡_, ap, ap₂, _∙_}
 use borrow.Author.Needs.{needs}
@@ -7,7 +8,7 @@ use Rattle.paper.specs.Strings.{Bytes, _⊕_}
 use Rattle.paper.specs.Figure6.{row, E}
 use Rattle.tbc.specs.Meaning.{blocks}
 use Rattle.wide.specs.Ends.{cxOf, cyOf}
-use Rattle.wide.proofs.Rows.{at-pair, at-minus, defined-0, defined-minus}
+use Rattle.tbc.proofs.Pairs.{at-pair, plain}
 use Rattle.wide.proofs.Stores.{stored}
 use Rattle.wide.proofs.put_last.Statement.{statement}
 use Rattle.wide.proofs.put_last.Tie as tie
@@ -16,7 +17,7 @@ at-requires : tie.Need-at-requires
 at-requires c κs = search needs
 
 e-requires : tie.Need-e-requires
-e-requires c κs = defined-minus (c .at .result) (c .before .before .before .before .args .y) (c .at .ensures) (c .before .before .before .before .pre .0)
+e-requires c κs = plain (c .at .result) true 1 (c .before .before .before .before .args .y) (c .at .ensures) (c .before .before .before .before .pre .0)
 
 xor-requires : tie.Need-xor-requires
 xor-requires c κs = search needs
@@ -25,7 +26,7 @@ at-requires-2 : tie.Need-at-requires-2
 at-requires-2 c κs = search needs
 
 e-requires-2 : tie.Need-e-requires-2
-e-requires-2 c κs = defined-0 (c .at2 .result) (c .before .before .before .before .before .before .before .args .y) (c .at2 .ensures) (c .before .before .before .before .before .before .before .pre .0)
+e-requires-2 c κs = plain (c .at2 .result) false 0 (c .before .before .before .before .before .before .before .args .y) (c .at2 .ensures) (c .before .before .before .before .before .before .before .pre .0)
 
 xor-requires-2 : tie.Need-xor-requires-2
 xor-requires-2 c κs = search needs
@@ -51,10 +52,10 @@ returns c =
     let a = c .before .before .before .before .before .before .before .before .before .before .before .before .before .before .before .before .before .before .before .args in
     let f = E (blocks (a .k)) in
     let cy : c .before .before .before .before .before .before .before .before .before .before .before .before .before .xor .result ≡ cyOf f (a .delta) (a .y) (a .total) (a .sums .sx) (a .sums .sy) =
-    c .before .before .before .before .before .before .before .before .before .before .before .before .before .xor .ensures ∙ ap (λ (l : Bytes). a .sums .sx ⊕ l) (c .before .before .before .before .before .before .before .before .before .before .before .before .before .before .e .ensures ∙ at-minus (blocks (a .k)) _ (a .y) _ (c .before .before .before .before .before .before .before .before .before .before .before .before .before .before .before .at .ensures)) in
+    c .before .before .before .before .before .before .before .before .before .before .before .before .before .xor .ensures ∙ ap (λ (l : Bytes). a .sums .sx ⊕ l) (c .before .before .before .before .before .before .before .before .before .before .before .before .before .before .e .ensures ∙ at-pair _ true 1 (a .y) (c .before .before .before .before .before .before .before .before .before .before .before .before .before .before .before .at .ensures) (blocks (a .k)) _) in
     let both = c .before .before .before .before .before .before .before .before .before .xor3 .ensures ∙ ap (λ (l : Bytes). l ⊕ a .total) (c .before .before .before .before .before .before .before .before .before .before .xor2 .ensures) in
     let cx : c .before .before .before .before .before .before .before .before .xor4 .result ≡ cxOf f (a .delta) (a .y) (a .total) (a .sums .sx) (a .sums .sy) =
-    c .before .before .before .before .before .before .before .before .xor4 .ensures ∙ ap₂ _⊕_ both (c .before .before .before .before .before .before .before .before .before .before .before .e2 .ensures ∙ at-pair (blocks (a .k)) _ 0 (a .y) _ (c .before .before .before .before .before .before .before .before .before .before .before .before .at2 .ensures) ∙ ap (f (row 0) (a .y)) cy) in
+    c .before .before .before .before .before .before .before .before .xor4 .ensures ∙ ap₂ _⊕_ both (c .before .before .before .before .before .before .before .before .before .before .before .e2 .ensures ∙ at-pair _ false 0 (a .y) (c .before .before .before .before .before .before .before .before .before .before .before .before .at2 .ensures) (blocks (a .k)) _ ∙ ap (f (row 0) (a .y)) cy) in
     let long : length (c .before .before .before .before .before .before .before .before .xor4 .result) ≡ 16 = search needs in
     stored (a .last .now) (c .before .before .before .before .before .before .before .before .xor4 .result) (c .before .before .before .before .before .before .before .before .before .before .before .before .before .xor .result) (c .before .before .before .before .before .before .store .last .0) (c .before .before .store2 .last .0) (c .before .before .before .before .before .before .before .before .before .before .before .before .before .before .before .before .before .before .before .pre .1) long (c .before .before .before .before .before .before .store .ensures) (c .before .before .store2 .ensures) ∙ ap₂ _++_ cx cy
 

@@ -1,0 +1,44 @@
+-- A pair that a call returned: E at it, and what `e` and `e_running` ask of it. And that both stay within the figure's domain.
+use mathlib.Core.Bool.{Bool, false}
+use mathlib.Core.Path.{_≡_, refl, ap, subst⁻¹}
+use Prim.Native.Nat.{ℕ, zero, suc, _-_, _/_, _≤_}
+use native.Mathlib.Omega.{arith}
+use Rattle.paper.specs.Strings.{Bytes}
+use Rattle.paper.specs.Section7.{twoTo}
+use Rattle.paper.specs.Figure6.{Row, minus1, row, Key, Defined, E}
+use Rattle.tbc.specs.Meaning.{pair, rowOf, Plain, Running}
+use Rattle.tbc.specs.declared.Key as Code
+use Rattle.tbc.specs.declared.Pair.{Pair}
+use Rattle.tbc.proofs.Masks.{row-of}
+
+module _ (p : Pair) (minus : Bool) (i j : ℕ) (e : p ≡ pair minus i j) where
+  pub at-pair : (K : Key) (X : Bytes) → E K (rowOf p) (p .2) X ≡ E K (rowOf (pair minus i j)) j X
+  at-pair K X = ap (λ (q : Pair). E K (rowOf q) (q .2) X) e
+
+  pub plain : Plain (rowOf (pair minus i j)) j → Plain (rowOf p) (p .2)
+  plain h = subst⁻¹ (λ (q : Pair). Plain (rowOf q) (q .2)) e h
+
+-- the number j of a row from 1 on, with its power of L
+pub running : (p : Pair) (i j : ℕ) → p ≡ pair false i j → (k : Code.Key) (power : Bytes) → 1 ≤ i → 1 ≤ j → power ≡ twoTo ((j - 1) / 8) (k .l) → Running k p power
+running p i j e k power g h c =
+    subst⁻¹ (λ (q : Pair). Running k q power) e
+    (record { plus = refl; counted = g; from1 = h; carried = c })
+
+-- ---- every call of E is one that the figure defines
+
+pub plain-defined : (r : Row) (j : ℕ) → Plain r j → Defined r j
+plain-defined minus1 j h = h
+plain-defined (row zero) j h = h
+plain-defined (row (suc zero)) j h = absurd h
+plain-defined (row (suc (suc zero))) j h = absurd h
+plain-defined (row (suc (suc (suc i)))) j h = tt
+
+counted-defined : (i j : ℕ) → 1 ≤ i → 1 ≤ j → Defined (row i) j
+counted-defined zero j g h = absurd (omega arith)
+counted-defined (suc zero) j g h = h
+counted-defined (suc (suc zero)) j g h = h
+counted-defined (suc (suc (suc i))) j g h = tt
+
+pub running-defined : (k : Code.Key) (p : Pair) (power : Bytes) → Running k p power → Defined (rowOf p) (p .2)
+running-defined k p power h =
+    subst⁻¹ (λ (r : Row). Defined r (p .2)) (row-of p (p .1) (h .plus) refl) (counted-defined (p .1) (p .2) (h .counted) (h .from1))
