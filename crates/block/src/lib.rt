@@ -1,10 +1,10 @@
-// Blocks of 16 bytes: sums, multiples, padding, numbers, and blocks in a slice.
+// Blocks of 16 bytes: sums, multiples, padding, numbers, and blocks in a slice. And bytes in a slice: copied, cleared, compared.
 // The AEZ paper's section 7, NOTATION, and document 01, "Blocks".
 ghost use mathlib.Core.List.{_++_};
 ghost use mathlib.Core.Path.{_≡_};
 ghost use Prim.Native.Nat.{_+_, _<_, _≤_};
-ghost use lib.ListN.{length, take, drop};
-ghost use Rattle.paper.specs.Strings.{_⊕_, pad10*, number};
+ghost use lib.ListN.{length, take, drop, replicate};
+ghost use Rattle.paper.specs.Strings.{same, _⊕_, pad10*, number};
 ghost use Rattle.paper.specs.Section7.{double, _·_};
 
 // a ⊕ b.
@@ -128,4 +128,27 @@ pub fn copy(s: &mut [u8], at: usize, t: &[u8])
         s[at + i] = t[i];
         i += 1;
     }
+}
+
+// Zero for every byte of s.
+pub fn clear(s: &mut [u8])
+    ensures { λ _. ⌜ now (s .exit) ≡ replicate (length (now (s .entry))) 0 ⌝ }
+{
+    for i in 0..s.len() {
+        s[i] = 0;
+    }
+}
+
+// Whether two strings of one length are equal. Every byte is looked at, whatever is found: what differs is gathered, and asked about once.
+pub fn same_bytes(a: &[u8], b: &[u8]) -> bool
+    requires { ⌜ length (now a) ≡ length (now b) ⌝ }
+    ensures { λ r. ⌜ r ≡ same (now (a .entry)) (now (b .entry)) ⌝ }
+{
+    let mut found: u8 = 0;
+    let mut i: usize = 0;
+    while i < a.len() {
+        found = found | (a[i] ^ b[i]);
+        i += 1;
+    }
+    found == 0
 }

@@ -1,4 +1,5 @@
 // AEZ-hash and AEZ-prf of Figure 6 of the AEZ paper: what a record is bound to, and the sealed string of the empty text.
+use answer::StretchBits;
 use header::Place;
 use header::Reading;
 ghost use mathlib.Core.Path.{_≡_};
@@ -10,21 +11,6 @@ ghost use Rattle.paper.specs.Document01.{readHeader};
 ghost use Rattle.tbc.specs.Meaning.{blocks};
 ghost use Rattle.hash.specs.Delta.{deltaOf};
 ghost use Rattle.hash.specs.Fitted.{fitted};
-
-// The stretch in bytes, as callers have it.
-pub struct StretchBytes(pub u64);
-
-// The stretch in bits, as the tweak holds it.
-pub struct StretchBits(pub u64);
-
-impl StretchBytes {
-    pub fn bits(self) -> StretchBits
-        requires { ⌜ self .0 ≤ 64 ⌝ }
-        ensures { λ r. ⌜ r .0 ≡ 8 * self .0 ⌝ }
-    {
-        StretchBits(8 * self.0)
-    }
-}
 
 // Line 304: the sum over the full blocks of the i-th string. The power of L is carried from block to block.
 fn full_blocks(k: tbc::Key, i: u32, t: &[u8]) -> [u8; 16]

@@ -5,12 +5,7 @@ use Prim.Native.Nat.{ℕ, _+_}
 use lib.Dec.{eqb, ltb}
 use lib.ListN.{length, take, drop}
 use Rattle.paper.specs.Strings.{Bytes, if_then_else_}
-use Rattle.paper.specs.Document01.{Outcome, longestString, logHeader}
-use Rattle.header.specs.declared.Answer.{Answer}
-
--- what a call returned, and the output that it left
-abbrev pub outcome : Answer → Bytes → Outcome
-outcome r out = record { number = r .number; size = r .length; output = out }
+use Rattle.paper.specs.Document01.{longestString, logHeader}
 
 -- an item is longer than a string may be
 abbrev pub tooLong : Bytes → Bytes → Bytes → Bytes → Bool

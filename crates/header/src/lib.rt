@@ -1,12 +1,14 @@
 // Headers: where the strings of a header stand, whether a header reads, and how the log header is built.
 // Document 01, "Headers".
+use answer::Answer;
 ghost use mathlib.Core.List.{[], _∷_};
 ghost use mathlib.Core.Path.{_≡_};
 ghost use Prim.Native.Nat.{_+_, _<_, _≤_};
 ghost use lib.ListN.{length};
 ghost use Rattle.paper.specs.Document01.{readHeader, writeStrings, optional, logHeader, buildingLogHeader};
 ghost use Rattle.header.specs.Places.{entryAt, Within, readOf};
-ghost use Rattle.header.specs.Building.{outcome, tooLong, settledAs, kept, placed};
+ghost use Rattle.answer.specs.Outcomes.{outcome};
+ghost use Rattle.header.specs.Building.{tooLong, settledAs, kept, placed};
 
 // A string's start and end in the header, or an entry that does not read.
 pub enum Place {
@@ -79,12 +81,6 @@ pub fn read(h: &[u8]) -> Reading
         return Reading::Bad;
     }
     Reading::Strings(count)
-}
-
-// An answer of document 01, and the length of what was written.
-pub struct Answer {
-    pub number: u32,
-    pub length: usize,
 }
 
 // Whether an item is longer than a string of a header may be.

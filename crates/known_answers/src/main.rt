@@ -4,8 +4,8 @@
 // A vector is five lines. The first has the call, s for sealing, o for opening and h for the log header, and six numbers in hex: the
 // stretch in 16 digits, the bytes of output that are lent and the bytes of four strings in 8 digits each. The strings follow in hex, a line
 // each: key, header, text or sealed string, and an empty one; or nonce, host, collector and locale.
-use hash::StretchBytes;
-use header::Answer;
+use answer::Answer;
+use answer::StretchBytes;
 ghost use Prim.Native.Nat.{_<_, _≤_};
 ghost use lib.ListN.{length};
 
@@ -117,10 +117,10 @@ fn show(answer: Answer, out: &[u8], line: &mut [u8]) {
 // Makes the call that a vector's first letter names.
 fn call(which: u8, stretch: u64, a: &[u8], b: &[u8], c: &[u8], d: &[u8], out: &mut [u8]) -> Answer {
     if which == b's' {
-        return aez::seal(a, b, StretchBytes(stretch), c, out);
+        return record::seal(a, b, StretchBytes(stretch), c, out);
     }
     if which == b'o' {
-        return aez::open(a, b, StretchBytes(stretch), c, out);
+        return record::open(a, b, StretchBytes(stretch), c, out);
     }
     header::log_header(a, b, c, d, out)
 }

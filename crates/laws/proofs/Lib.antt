@@ -32,5 +32,3 @@ pub mod Ciphers
 -- sealing and opening
 pub mod Sealing
 pub mod Demand3
--- 01's table
-pub mod TwelveFacts

@@ -1,6 +1,4 @@
--- Computed checks of the definitions. Nothing that a reader must believe stands here.
+-- Checks of the definitions that other crates use or that cost little. Nothing that a reader must believe stands here.
 pub mod Table
 pub mod SBox
-pub mod ByTable
-pub mod Rounds
-pub mod Values
+pub mod Edges

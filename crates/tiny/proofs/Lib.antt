@@ -2,4 +2,3 @@ mod Filling
 mod FirstByte
 mod Indices
 mod AllTurns
-pub mod Composes

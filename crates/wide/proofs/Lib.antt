@@ -8,4 +8,3 @@ mod Parts
 mod CorePairs
 mod CoreUv
 mod CoreWhole
-pub mod Composes

@@ -7,7 +7,8 @@ use borrow.Author.Needs.{needs}
 use lib.ListN.{length, drop}
 use Rattle.paper.specs.Strings.{Bytes}
 use Rattle.paper.specs.Document01.{logHeader, done}
-use Rattle.header.specs.Building.{outcome, placed}
+use Rattle.answer.specs.Outcomes.{outcome}
+use Rattle.header.specs.Building.{placed}
 use Rattle.header.proofs.Items.{items-fit, builds-0}
 use Rattle.header.proofs.Answers.{refuses, accepts}
 use Rattle.header.proofs.log_header.Statement.{statement}

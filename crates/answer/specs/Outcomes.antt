@@ -1,0 +1,8 @@
+-- What an answer stands for in document 01.
+use Rattle.paper.specs.Strings.{Bytes}
+use Rattle.paper.specs.Document01.{Outcome}
+use Rattle.answer.specs.declared.Answer.{Answer}
+
+-- what a call returned, and the output that it left
+abbrev pub outcome : Answer → Bytes → Outcome
+outcome r out = record { number = r .number; size = r .length; output = out }

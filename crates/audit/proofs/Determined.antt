@@ -1,0 +1,196 @@
+-- Every public function of every crate is determined by its contract: any two results that the contract allows for the same arguments are
+-- equal, and so are any two contents of the lent buffer at exit. `Learnt` is a function's contract as its callers have it: the checker
+-- makes it from the `ensures` in the source. In each theorem κs are lifetimes, a the arguments, z and w two results, e and f the
+-- parameters at two exits.
+use mathlib.Core.Path.{_≡_, ap, sym, _∙_}
+use denote.Ref.{now, ptr}
+use Rattle.paper.specs.Strings.{Bytes}
+use Rattle.paper.specs.Figure6 as figure6
+use Rattle.paper.specs.Document01.{Outcome}
+use Rattle.answer.specs.Outcomes.{outcome}
+use Rattle.answer.specs.declared.Answer.{Answer}
+use Rattle.tbc.specs.declared.Key.{Key}
+use Rattle.tbc.specs.Meaning.{blocks}
+use Rattle.block.proofs.xor.Reads as block-xor
+use Rattle.block.proofs.double.Reads as block-double
+use Rattle.block.proofs.times.Reads as block-times
+use Rattle.block.proofs.pad.Reads as block-pad
+use Rattle.block.proofs.number.Reads as block-number
+use Rattle.block.proofs.load.Reads as block-load
+use Rattle.block.proofs.store.Reads as block-store
+use Rattle.block.proofs.copy.Reads as block-copy
+use Rattle.block.proofs.clear.Reads as block-clear
+use Rattle.block.proofs.same_bytes.Reads as block-same-bytes
+use Rattle.aes.proofs.aes4.Reads as aes-aes4
+use Rattle.aes.proofs.aes10.Reads as aes-aes10
+use Rattle.tbc.proofs.key_of.Reads as tbc-key-of
+use Rattle.tbc.proofs.Pair.at.Reads as tbc-pair-at
+use Rattle.tbc.proofs.Pair.string.Reads as tbc-pair-string
+use Rattle.tbc.proofs.e.Reads as tbc-e
+use Rattle.tbc.proofs.e_running.Reads as tbc-e-running
+use Rattle.tbc.proofs.next_power.Reads as tbc-next-power
+use Rattle.answer.proofs.StretchBytes.bits.Reads as answer-bits
+use Rattle.header.proofs.entry.Reads as header-entry
+use Rattle.header.proofs.read.Reads as header-read
+use Rattle.header.proofs.log_header.Reads as header-log-header
+use Rattle.hash.proofs.string_hash.Reads as hash-string-hash
+use Rattle.hash.proofs.delta.Reads as hash-delta
+use Rattle.hash.proofs.prf.Reads as hash-prf
+use Rattle.tiny.proofs.encipher.Reads as tiny-encipher
+use Rattle.tiny.proofs.decipher.Reads as tiny-decipher
+use Rattle.wide.proofs.core_in_place.Reads as wide-core-in-place
+use Rattle.cipher.proofs.encrypt.Reads as cipher-encrypt
+use Rattle.cipher.proofs.decrypt.Reads as cipher-decrypt
+use Rattle.record.proofs.seal.Reads as record-seal
+use Rattle.record.proofs.«open».Reads as record-open
+use Rattle.record.proofs.open_part.Reads as record-open-part
+use Rattle.aez.proofs.aez_seal.Reads as exported-seal
+use Rattle.aez.proofs.aez_open.Reads as exported-open
+use Rattle.aez.proofs.aez_log_header.Reads as exported-log-header
+
+-- ---- The general lemmas
+
+-- two that are equal to a third
+one : {A : Type 0} {x y z : A} → x ≡ z → y ≡ z → x ≡ y
+one p q = p ∙ sym q
+
+-- a number, a length and a buffer, where the three are one outcome
+one-outcome : (z w : Answer) (X Y : Bytes) (o : Outcome) → outcome z X ≡ o → outcome w Y ≡ o → (z ≡ w) × (X ≡ Y)
+one-outcome z w X Y o p q =
+    let e : outcome z X ≡ outcome w Y = one p q in
+    (ap (λ (o : Outcome). record { number = o .number; length = o .size }) e, ap (λ (o : Outcome). o .output) e)
+
+-- a key record by its blocks
+one-key : (z w : Key) (k : figure6.Key) → blocks z ≡ k → blocks w ≡ k → z ≡ w
+one-key z w k p q = ap (λ (b : figure6.Key). record { i = b .I; j = b .J; l = b .L }) (one p q)
+
+-- ---- Blocks: `block`
+
+pub block-xor-determined : (κs : _) (a : _) (z w : _) (e f : _) → block-xor.Learnt κs a z e → block-xor.Learnt κs a w f → z ≡ w
+block-xor-determined κs a z w e f p q = one p q
+
+pub block-double-determined : (κs : _) (a : _) (z w : _) (e f : _) → block-double.Learnt κs a z e → block-double.Learnt κs a w f → z ≡ w
+block-double-determined κs a z w e f p q = one p q
+
+pub block-times-determined : (κs : _) (a : _) (z w : _) (e f : _) → block-times.Learnt κs a z e → block-times.Learnt κs a w f → z ≡ w
+block-times-determined κs a z w e f p q = one p q
+
+pub block-pad-determined : (κs : _) (a : _) (z w : _) (e f : _) → block-pad.Learnt κs a z e → block-pad.Learnt κs a w f → z ≡ w
+block-pad-determined κs a z w e f p q = one p q
+
+pub block-number-determined : (κs : _) (a : _) (z w : _) (e f : _) → block-number.Learnt κs a z e → block-number.Learnt κs a w f → z ≡ w
+block-number-determined κs a z w e f p q = one p q
+
+pub block-load-determined : (κs : _) (a : _) (z w : _) (e f : _) → block-load.Learnt κs a z e → block-load.Learnt κs a w f → z ≡ w
+block-load-determined κs a z w e f p q = one p q
+
+pub block-store-determined : (κs : _) (a : _) (z w : _) (e f : _) → block-store.Learnt κs a z e → block-store.Learnt κs a w f → now (e .0) ≡ now (f .0)
+block-store-determined κs a z w e f p q = one p q
+
+pub block-copy-determined : (κs : _) (a : _) (z w : _) (e f : _) → block-copy.Learnt κs a z e → block-copy.Learnt κs a w f → now (e .0) ≡ now (f .0)
+block-copy-determined κs a z w e f p q = one p q
+
+pub block-clear-determined : (κs : _) (a : _) (z w : _) (e f : _) → block-clear.Learnt κs a z e → block-clear.Learnt κs a w f → now (e .0) ≡ now (f .0)
+block-clear-determined κs a z w e f p q = one p q
+
+pub block-same-bytes-determined : (κs : _) (a : _) (z w : _) (e f : _) → block-same-bytes.Learnt κs a z e → block-same-bytes.Learnt κs a w f → z ≡ w
+block-same-bytes-determined κs a z w e f p q = one p q
+
+-- ---- The AES round: `aes`
+
+pub aes-aes4-determined : (κs : _) (a : _) (z w : _) (e f : _) → aes-aes4.Learnt κs a z e → aes-aes4.Learnt κs a w f → z ≡ w
+aes-aes4-determined κs a z w e f p q = one p q
+
+pub aes-aes10-determined : (κs : _) (a : _) (z w : _) (e f : _) → aes-aes10.Learnt κs a z e → aes-aes10.Learnt κs a w f → z ≡ w
+aes-aes10-determined κs a z w e f p q = one p q
+
+-- ---- The block function: `tbc`
+
+pub tbc-key-of-determined : (κs : _) (a : _) (z w : _) (e f : _) → tbc-key-of.Learnt κs a z e → tbc-key-of.Learnt κs a w f → z ≡ w
+tbc-key-of-determined κs a z w e f p q = one-key z w _ p q
+
+pub tbc-pair-at-determined : (κs : _) (a : _) (z w : _) (e f : _) → tbc-pair-at.Learnt κs a z e → tbc-pair-at.Learnt κs a w f → z ≡ w
+tbc-pair-at-determined κs a z w e f p q = one p q
+
+pub tbc-pair-string-determined : (κs : _) (a : _) (z w : _) (e f : _) → tbc-pair-string.Learnt κs a z e → tbc-pair-string.Learnt κs a w f → z ≡ w
+tbc-pair-string-determined κs a z w e f p q = one p q
+
+pub tbc-e-determined : (κs : _) (a : _) (z w : _) (e f : _) → tbc-e.Learnt κs a z e → tbc-e.Learnt κs a w f → z ≡ w
+tbc-e-determined κs a z w e f p q = one p q
+
+pub tbc-e-running-determined : (κs : _) (a : _) (z w : _) (e f : _) → tbc-e-running.Learnt κs a z e → tbc-e-running.Learnt κs a w f → z ≡ w
+tbc-e-running-determined κs a z w e f p q = one p q
+
+pub tbc-next-power-determined : (κs : _) (a : _) (z w : _) (e f : _) → tbc-next-power.Learnt κs a z e → tbc-next-power.Learnt κs a w f → z ≡ w
+tbc-next-power-determined κs a z w e f p q = one p q
+
+-- ---- What a door answers by: `answer`
+
+pub answer-bits-determined : (κs : _) (a : _) (z w : _) (e f : _) → answer-bits.Learnt κs a z e → answer-bits.Learnt κs a w f → z ≡ w
+answer-bits-determined κs a z w e f p q = λ i. record { 0 = one p q i }
+
+-- ---- Headers: `header`
+
+pub header-entry-determined : (κs : _) (a : _) (z w : _) (e f : _) → header-entry.Learnt κs a z e → header-entry.Learnt κs a w f → z ≡ w
+header-entry-determined κs a z w e f p q = one (p .0) (q .0)
+
+pub header-read-determined : (κs : _) (a : _) (z w : _) (e f : _) → header-read.Learnt κs a z e → header-read.Learnt κs a w f → z ≡ w
+header-read-determined κs a z w e f p q = one p q
+
+pub header-log-header-determined : (κs : _) (a : _) (z w : _) (e f : _) → header-log-header.Learnt κs a z e → header-log-header.Learnt κs a w f → (z ≡ w) × (now (e .1 .1 .1 .1 .0) ≡ now (f .1 .1 .1 .1 .0))
+header-log-header-determined κs a z w e f p q = one-outcome z w (now (e .1 .1 .1 .1 .0)) (now (f .1 .1 .1 .1 .0)) _ p q
+
+-- ---- The hash and the prf: `hash`
+
+pub hash-string-hash-determined : (κs : _) (a : _) (z w : _) (e f : _) → hash-string-hash.Learnt κs a z e → hash-string-hash.Learnt κs a w f → z ≡ w
+hash-string-hash-determined κs a z w e f p q = one p q
+
+pub hash-delta-determined : (κs : _) (a : _) (z w : _) (e f : _) → hash-delta.Learnt κs a z e → hash-delta.Learnt κs a w f → z ≡ w
+hash-delta-determined κs a z w e f p q = one p q
+
+pub hash-prf-determined : (κs : _) (a : _) (z w : _) (e f : _) → hash-prf.Learnt κs a z e → hash-prf.Learnt κs a w f → now (e .1 .1 .0) ≡ now (f .1 .1 .0)
+hash-prf-determined κs a z w e f p q = one p q
+
+-- ---- AEZ-tiny: `tiny`
+
+pub tiny-encipher-determined : (κs : _) (a : _) (z w : _) (e f : _) → tiny-encipher.Learnt κs a z e → tiny-encipher.Learnt κs a w f → now (e .1 .1 .0) ≡ now (f .1 .1 .0)
+tiny-encipher-determined κs a z w e f p q = one p q
+
+pub tiny-decipher-determined : (κs : _) (a : _) (z w : _) (e f : _) → tiny-decipher.Learnt κs a z e → tiny-decipher.Learnt κs a w f → now (e .1 .1 .0) ≡ now (f .1 .1 .0)
+tiny-decipher-determined κs a z w e f p q = one p q
+
+-- ---- AEZ-core: `wide`
+
+pub wide-core-in-place-determined : (κs : _) (a : _) (z w : _) (e f : _) → wide-core-in-place.Learnt κs a z e → wide-core-in-place.Learnt κs a w f → now (e .1 .1 .1 .0) ≡ now (f .1 .1 .1 .0)
+wide-core-in-place-determined κs a z w e f p q = one p q
+
+-- ---- Which branch: `cipher`
+
+pub cipher-encrypt-determined : (κs : _) (a : _) (z w : _) (e f : _) → cipher-encrypt.Learnt κs a z e → cipher-encrypt.Learnt κs a w f → now (e .1 .1 .1 .0) ≡ now (f .1 .1 .1 .0)
+cipher-encrypt-determined κs a z w e f p q = one p q
+
+pub cipher-decrypt-determined : (κs : _) (a : _) (z w : _) (e f : _) → cipher-decrypt.Learnt κs a z e → cipher-decrypt.Learnt κs a w f → (z ≡ w) × (now (e .1 .1 .1 .1 .0) ≡ now (f .1 .1 .1 .1 .0))
+cipher-decrypt-determined κs a z w e f p q = (one (p .0) (q .0), one (p .1) (q .1))
+
+-- ---- Sealing and opening: `record`
+
+pub record-seal-determined : (κs : _) (a : _) (z w : _) (e f : _) → record-seal.Learnt κs a z e → record-seal.Learnt κs a w f → (z ≡ w) × (now (e .1 .1 .1 .1 .0) ≡ now (f .1 .1 .1 .1 .0))
+record-seal-determined κs a z w e f p q = one-outcome z w (now (e .1 .1 .1 .1 .0)) (now (f .1 .1 .1 .1 .0)) _ p q
+
+pub record-open-determined : (κs : _) (a : _) (z w : _) (e f : _) → record-open.Learnt κs a z e → record-open.Learnt κs a w f → (z ≡ w) × (now (e .1 .1 .1 .1 .0) ≡ now (f .1 .1 .1 .1 .0))
+record-open-determined κs a z w e f p q = one-outcome z w (now (e .1 .1 .1 .1 .0)) (now (f .1 .1 .1 .1 .0)) _ p q
+
+-- the part begins where the output does, and its bytes are determined; what lies past it no contract can say (docs/CONTRACTS.md)
+pub record-open-part-determined : (κs : _) (a : _) (z w : _) (e f : _) → record-open-part.Learnt κs a z e → record-open-part.Learnt κs a w f → (ptr z ≡ ptr w) × (now z ≡ now w)
+record-open-part-determined κs a z w e f p q = (one (p .0) (q .0), one (p .1) (q .1))
+
+-- ---- What other programs link: `aez`
+
+pub exported-seal-determined : (κs : _) (a : _) (z w : _) (e f : _) → exported-seal.Learnt κs a z e → exported-seal.Learnt κs a w f → (z ≡ w) × (now (e .1 .1 .1 .1 .0) ≡ now (f .1 .1 .1 .1 .0))
+exported-seal-determined κs a z w e f p q = (one (p .0) (q .0), one (p .1) (q .1))
+
+pub exported-open-determined : (κs : _) (a : _) (z w : _) (e f : _) → exported-open.Learnt κs a z e → exported-open.Learnt κs a w f → (z ≡ w) × (now (e .1 .1 .1 .1 .0) ≡ now (f .1 .1 .1 .1 .0))
+exported-open-determined κs a z w e f p q = (one (p .0) (q .0), one (p .1) (q .1))
+
+pub exported-log-header-determined : (κs : _) (a : _) (z w : _) (e f : _) → exported-log-header.Learnt κs a z e → exported-log-header.Learnt κs a w f → (z ≡ w) × (now (e .1 .1 .1 .1 .0) ≡ now (f .1 .1 .1 .1 .0))
+exported-log-header-determined κs a z w e f p q = (one (p .0) (q .0), one (p .1) (q .1))

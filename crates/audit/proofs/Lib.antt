@@ -1,0 +1,4 @@
+-- What is proved of the calls. An auditor reads this folder after the definitions in `paper/specs`.
+pub mod Demands
+pub mod Determined
+pub mod Composes

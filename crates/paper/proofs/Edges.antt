@@ -1,0 +1,19 @@
+-- Two places where a definition is easily mistaken, computed over any keys, blocks and block function.
+use mathlib.Core.List.{[], _∷_}
+use mathlib.Core.Path.{_≡_, refl}
+use Prim.Native.Nat.{ℕ}
+use Rattle.paper.specs.Strings.{Bytes, tab, _⊕_, pad10*, sum}
+use Rattle.paper.specs.Fips197.{SubBytes, ShiftRows, MixColumns}
+use Rattle.paper.specs.Section7.{zeros, aesenc, rounds, AES}
+use Rattle.paper.specs.Figure6.{row, BlockFunction}
+use Rattle.paper.specs.Figure5.{X}
+
+-- the last round keeps its MixColumns
+pub last-MixColumns : (K0 K1 B : Bytes) → AES (K0 ∷ K1 ∷ []) B ≡ MixColumns (ShiftRows (SubBytes (B ⊕ K0))) ⊕ K1
+unfolding AES rounds aesenc
+last-MixColumns K0 K1 B = refl
+
+-- of 48 bytes, d is 16: u is full, and v, which is empty, counts all the same
+pub empty-v : (E : BlockFunction) (Δ : Bytes) (x y : ℕ) → X E Δ x y (tab 48 (λ i. i)) ≡ zeros ⊕ E (row 0) 4 (tab 16 (λ i. i)) ⊕ E (row 0) 5 (pad10* [])
+unfolding X sum
+empty-v E Δ x y = refl

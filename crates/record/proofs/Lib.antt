@@ -1,0 +1,3 @@
+pub mod Settles
+mod Whole
+mod Parts
