@@ -83,7 +83,7 @@ module _ (key header : Bytes) (strings : List Bytes) (t : ℕ) (fixed : Fixed ke
   Within C = laws.Within key header strings t fixed C
 
   -- the calls seal M to C just where the definition does
-  seals-defined : (M C : Bytes) → Seals M C → laws.Seals key header strings t fixed M C
+  pub seals-defined : (M C : Bytes) → Seals M C → laws.Seals key header strings t fixed M C
   seals-defined M C s =
       let out : Bytes = C in
       let fits = sealed-fits M C (ap (λ (o : Outcome). o .number) (s .call C (omega arith))) in

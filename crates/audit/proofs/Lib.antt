@@ -1,4 +1,6 @@
 -- What is proved of the calls. An auditor reads this folder after the definitions in `paper/specs`.
 pub mod Demands
+pub mod Numbers
+pub mod Lengths
 pub mod Determined
 pub mod Composes
