@@ -10,7 +10,8 @@ pub mod BitStrings
 pub mod BitBytes
 pub mod Padding
 pub mod Joins
--- section 7, and the block function of Figure 6
+-- FIPS 197, section 7, and the block function of Figure 6
+pub mod SBox
 pub mod Multiples
 pub mod Round
 pub mod BlockFunction

@@ -1,4 +1,4 @@
--- Lists by their entries: a list is the table of them, and a map replaces each.
+-- Lists by their entries: the entry at k of a table is f k, a list is the table of its entries, and a map replaces each.
 use mathlib.Core.List.{List, [], _∷_, map}
 use mathlib.Core.Path.{_≡_, refl, ap, ap₂, sym, subst, _∙_}
 use Prim.Native.Nat.{ℕ, zero, suc, _+_, _<_}
@@ -6,6 +6,14 @@ use native.Mathlib.Nat.{add-zero, zero-add, add-suc, suc-add, le-of-suc-le-suc, 
 use native.Mathlib.Omega.{arith}
 use lib.ListN.{length, getD}
 use Rattle.paper.specs.Strings.{tabFrom, tab}
+
+getD-tabFrom : (i n k : ℕ) (f : ℕ → ℕ) → k < n → getD (tabFrom i n f) k 0 ≡ f (i + k)
+getD-tabFrom i zero k f h = absurd (not-suc-le-zero h)
+getD-tabFrom i (suc n) zero f h = ap f (sym (add-zero i))
+getD-tabFrom i (suc n) (suc k) f h = getD-tabFrom (suc i) n k f (le-of-suc-le-suc h) ∙ ap f (suc-add i k ∙ sym (add-suc i k))
+
+pub getD-tab : (n k : ℕ) (f : ℕ → ℕ) → k < n → getD (tab n f) k 0 ≡ f k
+getD-tab n k f h = getD-tabFrom 0 n k f h ∙ ap f (zero-add k)
 
 -- the entries of l, from i on, by any function that gives them
 entries : (i : ℕ) (f : ℕ → ℕ) (l : List ℕ) → ((k : ℕ) → f (i + k) ≡ getD l k 0) → l ≡ tabFrom i (length l) f

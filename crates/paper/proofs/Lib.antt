@@ -1,4 +1,2 @@
--- Checks of the definitions that other crates use or that cost little. Nothing that a reader must believe stands here.
-pub mod Table
-pub mod SBox
-pub mod Edges
+-- A check of the definitions. Nothing that a reader must believe stands here.
+mod Edges

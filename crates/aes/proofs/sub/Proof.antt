@@ -5,7 +5,7 @@ use Prim.Native.Nat.{ℕ}
 use borrow.Author.Needs.{needs}
 use lib.ListN.{getD}
 use Rattle.paper.specs.Fips197.{sbox}
-use Rattle.paper.proofs.Table.{getD-tab}
+use Rattle.laws.proofs.Tables.{getD-tab}
 use Rattle.aes.proofs.sub.Statement.{statement}
 use Rattle.aes.proofs.sub.Tie as tie
 

@@ -5,9 +5,9 @@ use mathlib.Core.Path.{_≡_, refl, ap, sym, subst, _∙_}
 use Prim.Native.Nat.{ℕ, suc}
 use lib.Dec.{T, ltb, ltb→lt}
 use lib.ListN.{getD, replicate}
 use Rattle.paper.specs.Strings.{Bytes, if_then_else_, tab}
 use Rattle.paper.specs.Fips197.{sbox, affine, inverse, squares, _•_, mulBits}
-use Rattle.paper.proofs.Table.{getD-tab}
+use Rattle.laws.proofs.Tables.{getD-tab}
 
 abbrev pub table : Bytes
 table =
