@@ -158,7 +158,7 @@ fn done(number: u32) -> Result<(), Refusal> {
         return Ok(());
     }
     let found = Refusal::ALL
-        .into_iter()
+        .iter()
         .find(|refusal| refusal.number() == number);
-    Err(found.unwrap_or_else(|| unreachable!("document 01 has no answer {number}")))
+    Err(*found.unwrap_or_else(|| unreachable!("document 01 has no answer {number}")))
 }

@@ -8,6 +8,9 @@ use core::fmt;
 /// A call gives the first that holds, in the order of their numbers; the log
 /// header builder tests 8 and then 6.
 ///
+/// Calls that are still to come bring refusals of their own, so a `match` has an
+/// arm for the rest. The numbers that stand here stay as they are.
+///
 /// ```
 /// use jarrovento::{seal, Refusal};
 ///
@@ -21,6 +24,7 @@ use core::fmt;
 /// # assert_eq!(error.to_string(), refusal.to_string());
 /// ```
 #[derive(Clone, Copy, Debug, PartialEq, Eq, Hash)]
+#[non_exhaustive]
 #[repr(u32)]
 pub enum Refusal {
     /// 1: the key is not 48 bytes long.
@@ -45,7 +49,7 @@ pub enum Refusal {
 
 impl Refusal {
     /// Every refusal, in the order of the numbers.
-    pub const ALL: [Refusal; 8] = [
+    pub const ALL: &'static [Refusal] = &[
         Refusal::KeyLength,
         Refusal::StretchTooLong,
         Refusal::HeaderUnreadable,
@@ -56,7 +60,7 @@ impl Refusal {
         Refusal::ItemTooLong,
     ];
 
-    /// Document 01's number of it, 1 to 8.
+    /// Document 01's number of it.
     pub const fn number(self) -> u32 {
         self as u32
     }

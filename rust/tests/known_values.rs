@@ -121,6 +121,6 @@ fn the_limits_are_the_library_s() {
 
 #[test]
 fn refusals_are_numbered_from_1_to_8() {
-    let numbers = Refusal::ALL.map(Refusal::number);
-    assert_eq!(numbers, [1, 2, 3, 4, 5, 6, 7, 8]);
+    let numbers = Refusal::ALL.iter().map(|refusal| refusal.number());
+    assert!(numbers.eq(1..=8));
 }
