@@ -9,6 +9,10 @@
 //!
 //! That the declarations below are the functions that the library exports is
 //! checked by no compiler. Names, order and widths stand in `crates/aez/src/lib.rt`.
+//!
+//! A call returns its number alone. The length of what it wrote is worked out here,
+//! after answer 0 only, by formulas that are theorems: `Lengths.antt` below is
+//! `crates/audit/proofs/Lengths.antt`, and `Numbers.antt` stands beside it.
 #![allow(unsafe_code)]
 
 use crate::Refusal;
@@ -76,7 +80,8 @@ pub fn seal(
         )
     };
     done(number)?;
-    // Answer 0: the stretch is at most 64, and the sum is at most out's length.
+    // `sealed-length` in Lengths.antt. The stretch passed test 2 and fits a usize;
+    // the sum passed test 6 and does not overflow.
     Ok(text.len() + stretch as usize)
 }
 
@@ -104,7 +109,8 @@ pub fn open(
         )
     };
     done(number)?;
-    // Answer 0: the stretch is at most 64 and at most the sealed string's length.
+    // `opened-length` in Lengths.antt. The stretch passed test 2 and fits a usize;
+    // by test 5 it is at most the sealed string's length.
     Ok(sealed.len() - stretch as usize)
 }
 
@@ -133,7 +139,8 @@ pub fn log_header(
         )
     };
     done(number)?;
-    // Answer 0: no item is above 1,024 bytes.
+    // `log-header-length` in Lengths.antt. No sum overflows: by test 8 no item is
+    // above 1,024 bytes.
     let always = 1 + (2 + nonce.len()) + (2 + host.len());
     Ok(always + unless_empty(collector) + unless_empty(locale))
 }
@@ -151,8 +158,10 @@ fn unless_empty(item: &[u8]) -> usize {
 ///
 /// # Panics
 ///
-/// At a number that document 01 does not have. The contracts of the three functions
-/// allow none: each equates it with the number of a definition in document 01's terms.
+/// At a number that document 01 does not have. None comes: that the number of each
+/// call is one of document 01's for it is proved in Numbers.antt, for sealing as
+/// `seal-number` (0, 1, 2, 3, 4 and 6), for opening as `open-number` (0 to 7), for
+/// the builder as `log-header-number` (0, 6 and 8).
 fn done(number: u32) -> Result<(), Refusal> {
     if number == 0 {
         return Ok(());
