@@ -4,10 +4,6 @@
 //!
 //!     cargo bench --features bearssl
 
-#[path = "../second/mod.rs"]
-#[allow(dead_code)] // Its other parts are called by the tests.
-mod second;
-
 mod bearssl;
 
 use std::hint::black_box;

@@ -1,9 +1,5 @@
 //! The safe library against values that are known without it.
 
-#[path = "support/mod.rs"]
-#[allow(dead_code)] // Seeds and damage are the comparison's.
-mod support;
-
 use jarrovento::{log_header, open, seal, Refusal};
 use jarrovento::{KEY_LENGTH, LONGEST_LOG_HEADER, LONGEST_SEALED};
 use support::{counting, four_strings, four_values, hex, pattern, unhex};

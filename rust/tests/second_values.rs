@@ -1,13 +1,6 @@
 //! The second program against known values: FIPS 197, the facts and the table
 //! of document 01, and the four values of the definition.
 
-#[path = "../second/mod.rs"]
-mod second;
-
-#[path = "support/mod.rs"]
-#[allow(dead_code)] // Seeds and damage are the comparison's.
-mod support;
-
 use second::aes::{
     aes10, aes128, aes4, aesenc, key_expansion, mix_columns, shift_rows, sub_bytes, xor, Block,
     S_BOX,

@@ -1,22 +1,20 @@
 //! The files that the gate's program `known_answers` is held to are those that the
 //! second program makes.
 
-#[path = "../examples/vectors.rs"]
-#[allow(dead_code)] // Its `main` prints them.
-mod vectors;
-
 use std::fs;
 use std::path::Path;
 
+use support::vectors::vectors;
+
 #[test]
 fn the_stored_calls() {
-    let calls = vectors::vectors().into_iter().map(|vector| vector.call);
+    let calls = vectors().into_iter().map(|vector| vector.call);
     assert!(stored("stdin") == calls.collect::<String>());
 }
 
 #[test]
 fn the_stored_answers() {
-    let answers = vectors::vectors().into_iter().map(|vector| vector.answer);
+    let answers = vectors().into_iter().map(|vector| vector.answer);
     assert!(stored("stdout") == answers.collect::<String>());
 }
 

@@ -3,7 +3,8 @@
 use std::ffi::OsStr;
 use std::os::unix::ffi::OsStrExt;
 
-use crate::support::unhex;
+use support::unhex;
+
 use crate::{done, jarrovento};
 
 #[test]

@@ -4,9 +4,9 @@ use std::path::Path;
 use std::process::Command;
 
 use jarrovento::Refusal;
+use second::document01;
+use support::{counting, header, hex};
 
-use crate::second::document01;
-use crate::support::{counting, header, hex};
 use crate::{done, jarrovento, run};
 
 #[test]

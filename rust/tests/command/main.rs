@@ -1,13 +1,5 @@
 //! The command `jarrovento`, run as a shell runs it.
 
-#[path = "../../second/mod.rs"]
-#[allow(dead_code)] // Its parts are called by second_values.rs.
-mod second;
-
-#[path = "../support/mod.rs"]
-#[allow(dead_code)] // Damage and patterns are the comparison's.
-mod support;
-
 mod headers;
 mod help;
 mod refusals;

@@ -4,8 +4,8 @@ use std::fs;
 use std::path::Path;
 
 use jarrovento::Refusal;
+use support::{counting, hex, unhex};
 
-use crate::support::{counting, hex, unhex};
 use crate::{fails, file, folder, jarrovento, words, HELLO};
 
 /// A refusal is said, is the exit status, and leaves the output file alone.

@@ -2,7 +2,8 @@
 
 use std::fs;
 
-use crate::support::{counting, four_strings, hex, Source};
+use support::{counting, four_strings, hex, Source};
+
 use crate::{done, file, folder, jarrovento, words, HELLO};
 
 #[test]

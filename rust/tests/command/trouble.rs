@@ -2,7 +2,8 @@
 
 use std::fs::File;
 
-use crate::support::counting;
+use support::counting;
+
 use crate::{fails, file, folder, jarrovento, program, words, HEADER};
 
 #[test]

@@ -1,9 +1,8 @@
 //! One call of the proved library and of the second program, on the same inputs.
 
 use jarrovento::Refusal;
-
-use crate::second::document01::{self, Answer};
-use crate::support::pattern;
+use second::document01::{self, Answer};
+use support::pattern;
 
 /// Bytes beside the output, to see that a call stays within it.
 const BESIDE: usize = 16;

@@ -1,7 +1,8 @@
 //! Sealed strings that were changed, cut or lengthened, and strings that nobody sealed.
 
+use support::{header, Source};
+
 use crate::both::{open, seal};
-use crate::support::{header, Source};
 
 /// Opens a string that is not what was sealed. With a long stretch the check
 /// must fail; with none it can't. In between the two programs must agree.

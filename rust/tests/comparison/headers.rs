@@ -1,7 +1,8 @@
 //! Headers of every count, headers that do not read, and damaged headers.
 
+use support::{header, Source};
+
 use crate::both::{open, seal};
-use crate::support::{header, Source};
 
 /// Lengths of header strings at which a block is empty, short or full.
 const LENGTHS: [usize; 9] = [0, 1, 15, 16, 17, 32, 100, 1_023, 1_024];

@@ -1,7 +1,8 @@
 //! Every short length, the lengths around 4,096 and 65,536, and every stretch.
 
+use support::{header, Source};
+
 use crate::both::{open, seal};
-use crate::support::{header, Source};
 
 /// Seals a text, opens what came, and finds the text again.
 #[track_caller]

@@ -1,7 +1,8 @@
 //! The log header builder: items of every kind, and outputs of every kind.
 
+use support::{header, Source};
+
 use crate::both::{log_header, open, seal};
-use crate::support::{header, Source};
 
 #[test]
 fn items_of_many_lengths_in_outputs_of_many() {

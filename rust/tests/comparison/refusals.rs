@@ -1,7 +1,8 @@
 //! Inputs that break several rules at once: the first rule gives the answer.
 
+use support::{header, Source};
+
 use crate::both::{open, seal};
-use crate::support::{header, Source};
 
 /// One mix of inputs. `bytes` is the text to seal, or the string to open.
 struct Mix<'a> {

@@ -1,7 +1,8 @@
 //! Outputs that are too short, and outputs that are longer than needed.
 
+use support::{header, Source};
+
 use crate::both::{open, seal};
-use crate::support::{header, Source};
 
 #[test]
 fn every_room_for_short_texts() {

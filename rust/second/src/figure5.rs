@@ -3,8 +3,8 @@
 //! The header is the figure's N, A_1, .., A_m as one list. The stretch t is in
 //! bytes at the door; inside, tau = 8t is in bits.
 
-use super::aes::{xor, Block};
-use super::figure6::{
+use crate::aes::{xor, Block};
+use crate::figure6::{
     aez_hash, aez_prf, block, e, e_with_power, number, pad, powers_of_l, Key, ZERO,
 };
 

@@ -1,7 +1,7 @@
 //! Figure 6: AEZ-hash, AEZ-prf and the tweakable block function E, with the
 //! notation of section 7 that they use.
 
-use super::aes::{aes10, aes4, xor, Block};
+use crate::aes::{aes10, aes4, xor, Block};
 
 /// The block of zero bits, bold 0 in the paper.
 pub const ZERO: Block = [0; 16];

@@ -1,4 +1,7 @@
-//! What several tests use: bytes from a fixed seed, headers, and hex.
+//! What the tests and the example have in common: bytes from a fixed seed, headers,
+//! hex, and the vectors of the gate's program.
+
+pub mod vectors;
 
 /// Numbers that look random and are the same in every run (SplitMix64).
 pub struct Source(u64);

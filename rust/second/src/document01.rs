@@ -1,8 +1,8 @@
 //! Document 01's door: headers, the order of the refusals, and what each call
 //! leaves in its output.
 
-use super::figure5::{decrypt, encrypt};
-use super::figure6::Key;
+use crate::figure5::{decrypt, encrypt};
+use crate::figure6::Key;
 
 /// The longest stretch, in bytes.
 const STRETCH_LIMIT: u64 = 64;
