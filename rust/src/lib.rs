@@ -15,25 +15,28 @@
 //! string opens to some text.
 //!
 //! ```
-//! use jarrovento::{log_header, open, seal, Refusal};
+//! use jarrovento::{log_header, Key, Refusal};
 //!
-//! let key = [7; 48];
+//! let key = Key::from([7; 48]);
 //! let mut header = [0; 64];
 //! let header = log_header(&[1], b"n7", b"", b"de", &mut header)?;
 //!
 //! let mut sealed = [0; 64];
-//! let sealed = seal(&key, header, 4, b"1,204 s", &mut sealed)?;
+//! let sealed = key.seal(header, 4, b"1,204 s", &mut sealed)?;
 //! assert_eq!(sealed.len(), 7 + 4);
 //!
 //! let mut text = [0; 64];
-//! assert_eq!(open(&key, header, 4, sealed, &mut text)?, b"1,204 s");
+//! assert_eq!(key.open(header, 4, sealed, &mut text)?, b"1,204 s");
 //!
 //! // Under another host's header the record does not open.
 //! let mut other = [0; 64];
 //! let other = log_header(&[1], b"n8", b"", b"en", &mut other)?;
-//! assert_eq!(open(&key, other, 4, sealed, &mut text), Err(Refusal::CheckFails));
+//! assert_eq!(key.open(other, 4, sealed, &mut text), Err(Refusal::CheckFails));
 //! # Ok::<(), Refusal>(())
 //! ```
+//!
+//! [`seal`] and [`open`] are the same calls on a key of any bytes, for which document
+//! 01 has an answer too.
 //!
 //! The paper limits the use of one key to 2^48 bytes. No call counts them: that
 //! is the caller's to keep. The static library is for x86-64 Linux.
@@ -43,9 +46,11 @@
 #![deny(missing_docs)]
 #![deny(unsafe_code)]
 
+mod key;
 mod proved;
 mod refusal;
 
+pub use key::Key;
 pub use refusal::Refusal;
 
 /// The bytes of a key: the blocks I, J and L, 16 each, in that order.

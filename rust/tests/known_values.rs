@@ -1,6 +1,6 @@
 //! The safe library against values that are known without it.
 
-use jarrovento::{log_header, open, seal, Refusal};
+use jarrovento::{log_header, open, seal, Key, Refusal};
 use jarrovento::{KEY_LENGTH, LONGEST_LOG_HEADER, LONGEST_SEALED};
 use support::{counting, four_strings, four_values, hex, pattern, unhex};
 
@@ -20,6 +20,34 @@ fn the_four_values_open() {
         let opened = open(&counting(48), &four_strings(), stretch, &sealed, &mut out);
         assert_eq!(opened.unwrap(), text);
     }
+}
+
+/// By the key's own calls too.
+#[test]
+fn the_four_values_under_a_key() {
+    let key = Key::try_from(&counting(48)[..]).unwrap();
+    for (stretch, text, expected) in four_values() {
+        let (mut out, mut back) = ([0; 64], [0; 64]);
+        let sealed = key.seal(&four_strings(), stretch, &text, &mut out).unwrap();
+        assert_eq!(sealed, expected);
+        let opened = key.open(&four_strings(), stretch, sealed, &mut back);
+        assert_eq!(opened.unwrap(), text);
+    }
+}
+
+#[test]
+fn a_key_has_48_bytes() {
+    for length in 0..=100 {
+        let key = Key::try_from(&counting(length)[..]);
+        let refusal = (length != 48).then_some(Refusal::KeyLength);
+        assert_eq!(key.err(), refusal, "{length} bytes");
+    }
+}
+
+#[test]
+fn a_key_s_bytes_are_not_shown() {
+    let key = Key::from([7; KEY_LENGTH]);
+    assert_eq!(format!("{key:?} {key:#?}"), "Key(..) Key(..)");
 }
 
 #[test]
