@@ -1,10 +1,11 @@
 //! The customer's story, told on the sample: what the header is for, and what
 //! the stretch is for. A step that comes out otherwise than told is a failure.
 
-use jarrovento::{log_header, open, seal, Refusal, LONGEST_LOG_HEADER};
+use jarrovento::{log_header, Key, Refusal, LONGEST_LOG_HEADER};
 
-use crate::bytes::{key, to_hex};
 use crate::failure::Failure;
+use crate::hex;
+use crate::input;
 
 const KEY_FILE: &[u8] = include_bytes!("../sample/not-secret.key");
 const RECORD: &str = include_str!("../sample/record.txt");
@@ -17,7 +18,7 @@ struct Headers {
 }
 
 pub fn story() -> Result<String, Failure> {
-    let key = key(KEY_FILE.to_vec());
+    let key = input::key(KEY_FILE)?;
     let headers = Headers {
         n7: header_of("n7", "de")?,
         n8: header_of("n8", "en")?,
@@ -42,7 +43,7 @@ string opens to something, and only the reader can tell that it makes no sense.
     ))
 }
 
-fn with_a_stretch(key: &[u8], Headers { n7, n8 }: &Headers) -> Result<String, Failure> {
+fn with_a_stretch(key: &Key, Headers { n7, n8 }: &Headers) -> Result<String, Failure> {
     let sealed = seal_record(key, n7, 4)?;
     let at_home = open_record(key, n7, 4, &sealed)?;
     expect(at_home == RECORD.as_bytes(), "the record opens on its host")?;
@@ -68,16 +69,16 @@ Opened under the header of another host, n8 with locale en
   string that was not sealed under this header passes the check about once in
   2^32 times, 32 being the bits of 4 bytes; a longer stretch makes that rarer.
 ",
-        to_hex(n7),
-        to_hex(&sealed),
+        hex::encode(n7),
+        hex::encode(&sealed),
         RECORD.len(),
         sealed.len(),
         String::from_utf8_lossy(&at_home),
-        to_hex(n8),
+        hex::encode(n8),
     ))
 }
 
-fn without_a_stretch(key: &[u8], Headers { n7, n8 }: &Headers) -> Result<String, Failure> {
+fn without_a_stretch(key: &Key, Headers { n7, n8 }: &Headers) -> Result<String, Failure> {
     let sealed = seal_record(key, n7, 0)?;
     expect(sealed.len() == RECORD.len(), "a stretch of 0 adds nothing")?;
     let at_home = open_record(key, n7, 0, &sealed)?;
@@ -97,9 +98,9 @@ The same record with a stretch of 0
   opened on n7  {}
   under n8      {}, as hex: another text, and no refusal
 ",
-        to_hex(&sealed),
+        hex::encode(&sealed),
         String::from_utf8_lossy(&at_home),
-        to_hex(&elsewhere),
+        hex::encode(&elsewhere),
     ))
 }
 
@@ -117,12 +118,14 @@ fn header_of(host: &str, locale: &str) -> Result<Vec<u8>, Refusal> {
     Ok(header.to_vec())
 }
 
-fn seal_record(key: &[u8], header: &[u8], stretch: u64) -> Result<Vec<u8>, Refusal> {
+fn seal_record(key: &Key, header: &[u8], stretch: u64) -> Result<Vec<u8>, Refusal> {
     let mut out = [0; 64];
-    Ok(seal(key, header, stretch, RECORD.as_bytes(), &mut out)?.to_vec())
+    let sealed = key.seal(header, stretch, RECORD.as_bytes(), &mut out)?;
+    Ok(sealed.to_vec())
 }
 
-fn open_record(key: &[u8], header: &[u8], stretch: u64, sealed: &[u8]) -> Result<Vec<u8>, Refusal> {
+fn open_record(key: &Key, header: &[u8], stretch: u64, sealed: &[u8]) -> Result<Vec<u8>, Refusal> {
     let mut out = [0; 64];
-    Ok(open(key, header, stretch, sealed, &mut out)?.to_vec())
+    let text = key.open(header, stretch, sealed, &mut out)?;
+    Ok(text.to_vec())
 }

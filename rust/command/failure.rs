@@ -24,8 +24,8 @@ impl Failure {
         Failure::Usage(message.into())
     }
 
-    /// The refusal's number, 1 to 8; for the rest the values of BSD's sysexits.h,
-    /// which lie far above.
+    /// The refusal's number; for the rest the values of BSD's sysexits.h, which lie
+    /// far above.
     pub fn exit_status(&self) -> u8 {
         match self {
             Failure::Refused(refusal) => refusal.number() as u8,

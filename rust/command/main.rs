@@ -2,9 +2,11 @@
 //! `help.txt` says what it does.
 
 mod arguments;
-mod bytes;
 mod demo;
 mod failure;
+mod hex;
+mod input;
+mod output;
 
 use std::env;
 use std::ffi::OsString;
@@ -14,7 +16,8 @@ use std::process::ExitCode;
 
 use arguments::Arguments;
 use failure::Failure;
-use jarrovento::{Refusal, LONGEST_LOG_HEADER, LONGEST_SEALED};
+use input::Input;
+use jarrovento::{Key, Refusal, LONGEST_LOG_HEADER, LONGEST_SEALED};
 
 const HELP: &str = include_str!("help.txt");
 
@@ -35,16 +38,16 @@ fn run(words: &[OsString]) -> Result<(), Failure> {
         return Err(Failure::usage("no command"));
     };
     if words.first().is_some_and(|word| word == "--help") {
-        return bytes::write(None, HELP.as_bytes());
+        return output::write(None, HELP.as_bytes());
     }
     match command.to_str() {
-        Some("--help") => bytes::write(None, HELP.as_bytes()),
+        Some("--help") => output::write(None, HELP.as_bytes()),
         Some("header") => header(words),
-        Some("seal") => seal_or_open(words, jarrovento::seal),
-        Some("open") => seal_or_open(words, jarrovento::open),
+        Some("seal") => seal_or_open(words, Key::seal),
+        Some("open") => seal_or_open(words, Key::open),
         Some("demo") => {
             Arguments::read(words, &[], &[])?;
-            bytes::write(None, demo::story()?.as_bytes())
+            output::write(None, demo::story()?.as_bytes())
         }
         _ => Err(Failure::usage(format!(
             "no such command: {}",
@@ -56,7 +59,7 @@ fn run(words: &[OsString]) -> Result<(), Failure> {
 fn header(words: &[OsString]) -> Result<(), Failure> {
     let items = ["--nonce", "--host", "--collector", "--locale", "--out"];
     let arguments = Arguments::read(words, &items, &["--hex-out"])?;
-    let nonce = bytes::from_hex_argument("--nonce", arguments.required("--nonce")?)?;
+    let nonce = input::hex_argument("--nonce", arguments.required("--nonce")?)?;
     let host = arguments.required("--host")?.as_bytes();
     let item = |name| {
         arguments
@@ -74,8 +77,8 @@ fn header(words: &[OsString]) -> Result<(), Failure> {
     write_result(&arguments, header)
 }
 
-/// The library's `seal` or `open`: they take the same inputs.
-type Call = for<'a> fn(&[u8], &[u8], u64, &[u8], &'a mut [u8]) -> Result<&'a mut [u8], Refusal>;
+/// A key's `seal` or `open`: they take the same inputs.
+type Call = for<'a> fn(&Key, &[u8], u64, &[u8], &'a mut [u8]) -> Result<&'a mut [u8], Refusal>;
 
 fn seal_or_open(words: &[OsString], call: Call) -> Result<(), Failure> {
     let values = [
@@ -89,11 +92,15 @@ fn seal_or_open(words: &[OsString], call: Call) -> Result<(), Failure> {
     let arguments = Arguments::read(words, &values, &["--hex-in", "--hex-out"])?;
     let header = header_under(&arguments)?;
     let stretch = stretch(&arguments)?;
-    let key = bytes::key(bytes::read(Some(arguments.required("--key")?))?);
-    let mut input = bytes::read(arguments.value("--in"))?;
-    if arguments.flag("--hex-in") {
-        input = bytes::from_hex(&input).ok_or(Failure::NotHex)?;
-    }
+    let key_file = Input::open(Some(arguments.required("--key")?))?.bytes()?;
+    let input = Input::open(arguments.value("--in"))?;
+    let input = if arguments.flag("--hex-in") {
+        input.hex()?
+    } else {
+        input.bytes()?
+    };
+    // All is read. From here on document 01's tests, in its order: the key first.
+    let key = input::key(&key_file)?;
     let mut out = vec![0; LONGEST_SEALED];
     write_result(&arguments, call(&key, &header, stretch, &input, &mut out)?)
 }
@@ -104,8 +111,8 @@ fn header_under(arguments: &Arguments) -> Result<Vec<u8>, Failure> {
         arguments.value("--header"),
         arguments.value("--header-file"),
     ) {
-        (Some(digits), None) => bytes::from_hex_argument("--header", digits),
-        (None, Some(file)) => bytes::read(Some(file)),
+        (Some(digits), None) => input::hex_argument("--header", digits),
+        (None, Some(file)) => Input::open(Some(file))?.bytes(),
         (None, None) => Err(Failure::usage("--header or --header-file is missing")),
         (Some(_), Some(_)) => Err(Failure::usage("--header and --header-file are both given")),
     }
@@ -125,8 +132,8 @@ fn stretch(arguments: &Arguments) -> Result<u64, Failure> {
 fn write_result(arguments: &Arguments, result: &[u8]) -> Result<(), Failure> {
     let file = arguments.value("--out");
     if arguments.flag("--hex-out") {
-        let line = bytes::to_hex(result) + "\n";
-        return bytes::write(file, line.as_bytes());
+        let line = hex::encode(result) + "\n";
+        return output::write(file, line.as_bytes());
     }
-    bytes::write(file, result)
+    output::write(file, result)
 }

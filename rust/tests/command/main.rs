@@ -2,6 +2,8 @@
 
 mod headers;
 mod help;
+mod limits;
+mod outputs;
 mod refusals;
 mod round_trips;
 mod trouble;

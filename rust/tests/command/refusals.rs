@@ -85,6 +85,38 @@ fn key_files_that_hold_no_key() {
     }
 }
 
+/// A key file that holds no key is told before all that document 01 tests later.
+#[test]
+fn the_key_is_tested_first() {
+    let folder = folder("key_first");
+    let key = file(&folder, "key", &counting(47));
+    for command in ["seal", "open"] {
+        refused(
+            &folder,
+            &words(command, &key, "65", &[]),
+            b"hello",
+            Refusal::KeyLength,
+        );
+        let bad_header = [command, "--key", &key, "--header", "00", "--stretch", "0"];
+        refused(&folder, &bad_header, b"hello", Refusal::KeyLength);
+        refused(
+            &folder,
+            &words(command, &key, "0", &[]),
+            &[0; 65_537],
+            Refusal::KeyLength,
+        );
+    }
+    // Files are read before: what can't be read is told first.
+    let missing = folder.join("missing");
+    let missing = missing.to_str().unwrap();
+    let words = words("seal", &key, "65", &["--in", missing]);
+    fails(
+        &jarrovento(&words, b""),
+        74,
+        &format!("{missing}: No such file or directory (os error 2)"),
+    );
+}
+
 #[test]
 fn items_of_a_header_that_are_too_long() {
     let folder = folder("items");

@@ -1,0 +1,77 @@
+//! What the command reads: no more than it can use.
+
+use std::ffi::{OsStr, OsString};
+use std::fs::File;
+use std::io::{self, Read};
+use std::os::fd::AsFd;
+use std::os::unix::ffi::OsStrExt;
+
+use jarrovento::{Key, Refusal, LONGEST_SEALED};
+
+use crate::failure::Failure;
+use crate::hex;
+
+/// How many bytes are read. At one byte more than the longest sealed string each
+/// answer is settled: a text or a string of that length is too long, and so is a
+/// header; a key is shorter by far.
+const LIMIT: usize = LONGEST_SEALED + 1;
+
+/// A file or standard input, up to the limit.
+pub struct Input {
+    name: OsString,
+    file: File,
+}
+
+impl Input {
+    /// The file, or standard input where none is named.
+    pub fn open(file: Option<&OsStr>) -> Result<Input, Failure> {
+        let (name, opened) = match file {
+            Some(name) => (name, File::open(name)),
+            None => (OsStr::new("standard input"), standard_input()),
+        };
+        let name = name.into();
+        match opened {
+            Ok(file) => Ok(Input { name, file }),
+            Err(error) => Err(Failure::File(name, error)),
+        }
+    }
+
+    /// The bytes as they are.
+    pub fn bytes(self) -> Result<Vec<u8>, Failure> {
+        let mut content = Vec::new();
+        match self.file.take(LIMIT as u64).read_to_end(&mut content) {
+            Ok(_) => Ok(content),
+            Err(error) => Err(Failure::File(self.name, error)),
+        }
+    }
+
+    /// The bytes that the hex digits stand for.
+    pub fn hex(self) -> Result<Vec<u8>, Failure> {
+        hex::read(self.file, LIMIT).map_err(|trouble| match trouble {
+            hex::Trouble::NotHex => Failure::NotHex,
+            hex::Trouble::Unreadable(error) => Failure::File(self.name, error),
+        })
+    }
+}
+
+/// Without the buffer of `io::Stdin`, which reads beyond what it is asked for.
+fn standard_input() -> io::Result<File> {
+    Ok(File::from(io::stdin().as_fd().try_clone_to_owned()?))
+}
+
+/// The key that a key file holds: 48 bytes as they are, or 96 hex digits with
+/// white space anywhere.
+pub fn key(content: &[u8]) -> Result<Key, Refusal> {
+    Key::try_from(content).or_else(|refusal| {
+        // Behind the limit there may be more, which nobody has looked at.
+        let whole = content.len() < LIMIT;
+        let digits = hex::decode(content).filter(|_| whole);
+        Key::try_from(&digits.ok_or(refusal)?[..])
+    })
+}
+
+/// The bytes of an option whose value is hex digits.
+pub fn hex_argument(name: &str, digits: &OsStr) -> Result<Vec<u8>, Failure> {
+    hex::decode(digits.as_bytes())
+        .ok_or_else(|| Failure::usage(format!("{name} is not pairs of hex digits")))
+}
