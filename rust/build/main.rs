@@ -1,10 +1,17 @@
 //! Links the proved static library, and has the kit's `rt` prove and build it
 //! where it is missing or older than what it is made from.
 
+mod crates;
+mod progress;
+mod rt;
+
 use std::path::{Path, PathBuf};
-use std::process::{exit, Command};
+use std::process::exit;
 use std::time::SystemTime;
 use std::{env, fs, io};
+
+/// The crate that the library is made from, with those that it needs.
+const NAME: &str = "aez";
 
 fn main() {
     if let Err(message) = link_proved_library() {
@@ -14,26 +21,53 @@ fn main() {
 }
 
 fn link_proved_library() -> Result<(), String> {
+    see_that_the_target_is_served()?;
     let package = env::var_os("CARGO_MANIFEST_DIR").ok_or("cargo has not said where we are")?;
     let root = Path::new(&package).join("..");
-    let sources = [root.join("crates"), root.join("crates.txt")];
+    let list = root.join("crates.txt");
+    let lines = fs::read_to_string(&list).map_err(|error| trouble(&list, &error))?;
+    let crates = crates::needed_for(NAME, &lines);
+    if crates.is_empty() {
+        return Err(format!("crates.txt does not list {NAME}"));
+    }
+    let mut sources: Vec<PathBuf> = crates
+        .iter()
+        .map(|name| root.join("crates").join(name))
+        .collect();
+    sources.push(list);
+
     let folder = root.join("target/staticlib");
-    let library = folder.join("libaez.a");
+    let library = folder.join(format!("lib{NAME}.a"));
     // The library too: `rt ci` removes it, and then it is to be built again.
     for path in sources.iter().chain([&library]) {
         println!("cargo:rerun-if-changed={}", path.display());
     }
     if !is_current(&library, &sources)? {
-        build(&root)?;
+        rt::prove_and_build(&root, &crates)?;
     }
     println!("cargo:rustc-link-search=native={}", folder.display());
-    println!("cargo:rustc-link-lib=static=aez");
+    println!("cargo:rustc-link-lib=static={NAME}");
     // For the test that links it from C.
     println!("cargo:rustc-env=AEZ_LIBRARY={}", library.display());
     Ok(())
 }
 
-/// Whether the library is there and no source is newer.
+/// The library is machine code for one kind of system.
+fn see_that_the_target_is_served() -> Result<(), String> {
+    let of_target = |part| env::var(format!("CARGO_CFG_TARGET_{part}")).unwrap_or_default();
+    let (arch, os) = (of_target("ARCH"), of_target("OS"));
+    if (arch.as_str(), os.as_str()) == ("x86_64", "linux") {
+        return Ok(());
+    }
+    Err(format!(
+        "jarrovento needs x86-64 Linux, and this build is for {arch} {os}. The proved library, \
+         target/staticlib/lib{NAME}.a, is machine code, and the Rattle kit builds it for no other \
+         system. Build and run it on such a machine, or in a container of one."
+    ))
+}
+
+/// Whether the library is there and no source is newer. This is not left to rt: it
+/// proves the crate of a static library anew in every run, for about a minute.
 fn is_current(library: &Path, sources: &[PathBuf]) -> Result<bool, String> {
     let Ok(built) = library.metadata().and_then(|found| found.modified()) else {
         return Ok(false);
@@ -58,31 +92,6 @@ fn newest(path: &Path) -> Result<SystemTime, String> {
         }
     }
     Ok(latest)
-}
-
-fn build(root: &Path) -> Result<(), String> {
-    let finished = Command::new("rt")
-        .args(["staticlib", "aez"])
-        .current_dir(root)
-        .output()
-        .map_err(|error| match error.kind() {
-            io::ErrorKind::NotFound => {
-                "The proved library, target/staticlib/libaez.a, is missing or older than \
-                 crates/, and the Rattle kit's rt, which proves and builds it, is not on the \
-                 PATH. Put the kit's bin/ on the PATH, or bring a current libaez.a there."
-                    .to_string()
-            }
-            _ => format!("rt does not start: {error}"),
-        })?;
-    if finished.status.success() {
-        return Ok(());
-    }
-    Err(format!(
-        "rt staticlib aez: {}\n{}{}",
-        finished.status,
-        String::from_utf8_lossy(&finished.stdout),
-        String::from_utf8_lossy(&finished.stderr)
-    ))
 }
 
 fn trouble(path: &Path, error: &io::Error) -> String {
