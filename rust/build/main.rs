@@ -26,12 +26,13 @@ fn link_proved_library() -> Result<(), String> {
     let root = Path::new(&package).join("..");
     let list = root.join("crates.txt");
     let lines = fs::read_to_string(&list).map_err(|error| trouble(&list, &error))?;
-    let crates = crates::needed_for(NAME, &lines);
-    if crates.is_empty() {
+    let steps = crates::steps_to(NAME, &lines);
+    if steps.is_empty() {
         return Err(format!("crates.txt does not list {NAME}"));
     }
-    let mut sources: Vec<PathBuf> = crates
+    let mut sources: Vec<PathBuf> = steps
         .iter()
+        .flatten()
         .map(|name| root.join("crates").join(name))
         .collect();
     sources.push(list);
@@ -43,7 +44,7 @@ fn link_proved_library() -> Result<(), String> {
         println!("cargo:rerun-if-changed={}", path.display());
     }
     if !is_current(&library, &sources)? {
-        rt::prove_and_build(&root, &crates)?;
+        rt::prove_and_build(&root, &steps)?;
     }
     println!("cargo:rustc-link-search=native={}", folder.display());
     println!("cargo:rustc-link-lib=static={NAME}");

@@ -29,12 +29,13 @@ impl Progress {
         }
     }
 
-    /// Does the work, which is at this crate, and shows that every second.
-    pub fn during<T>(&self, number: usize, name: &str, work: impl FnOnce() -> T) -> T {
+    /// Does the work, which is at these crates after so many others, and shows that
+    /// every second.
+    pub fn during<T>(&self, proved: usize, names: &[&str], work: impl FnOnce() -> T) -> T {
         thread::scope(|scope| {
             let (working, ended) = channel::<()>();
             scope.spawn(move || loop {
-                self.show(number, name);
+                self.show(proved, names);
                 let waited = ended.recv_timeout(Duration::from_secs(1));
                 if waited != Err(RecvTimeoutError::Timeout) {
                     break;
@@ -46,13 +47,13 @@ impl Progress {
         })
     }
 
-    fn show(&self, number: usize, name: &str) {
+    fn show(&self, proved: usize, names: &[&str]) {
         let seconds = self.started.elapsed().as_secs();
         let (minutes, seconds) = (seconds / 60, seconds % 60);
-        let crates = self.crates;
+        let (crates, names) = (self.crates, names.join(", "));
         // The cursor goes back to the start, where cargo writes lines of its own.
         self.write(&format!(
-            "\r     Proving {name}, crate {number} of {crates}, {minutes}:{seconds:02} so far\
+            "\r     Proving {names} ({proved} of {crates} crates proved, {minutes}:{seconds:02} so far)\
              {CLEAR}\r"
         ));
     }

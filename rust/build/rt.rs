@@ -7,21 +7,29 @@ use std::process::Command;
 use crate::progress::Progress;
 use crate::NAME;
 
-/// Proves the crates, each after those that it uses, and builds the library of the
-/// last. One call of rt would do, but it says nothing of a crate before it has
-/// proved it; so it is called for each, and it is known which one it is at.
-pub fn prove_and_build(root: &Path, crates: &[&str]) -> Result<(), String> {
-    let progress = Progress::of(crates.len());
-    for (number, name) in (1..).zip(crates) {
-        let verb = if *name == NAME { "staticlib" } else { "check" };
-        progress.during(number, name, || run(root, verb, name))?;
+/// Proves the crates step by step, and builds the library of the last. One call of
+/// rt would do, but it proves the crates one after the other then, and says nothing
+/// of a crate before it has proved it; so it is called for each step, and it is
+/// known where it is.
+pub fn prove_and_build(root: &Path, steps: &[Vec<&str>]) -> Result<(), String> {
+    let progress = Progress::of(steps.iter().map(Vec::len).sum());
+    let mut proved = 0;
+    for step in steps {
+        let verb = if step.contains(&NAME) {
+            "staticlib"
+        } else {
+            "check"
+        };
+        progress.during(proved, step, || run(root, verb, step))?;
+        proved += step.len();
     }
     Ok(())
 }
 
-fn run(root: &Path, verb: &str, name: &str) -> Result<(), String> {
+fn run(root: &Path, verb: &str, names: &[&str]) -> Result<(), String> {
     let finished = Command::new("rt")
-        .args([verb, name])
+        .arg(verb)
+        .args(names)
         .current_dir(root)
         .output()
         .map_err(|error| match error.kind() {
@@ -36,7 +44,8 @@ fn run(root: &Path, verb: &str, name: &str) -> Result<(), String> {
         return Ok(());
     }
     Err(format!(
-        "rt {verb} {name}: {}\n{}{}",
+        "rt {verb} {}: {}\n{}{}",
+        names.join(" "),
         finished.status,
         String::from_utf8_lossy(&finished.stdout),
         String::from_utf8_lossy(&finished.stderr)
