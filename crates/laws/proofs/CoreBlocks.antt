@@ -41,29 +41,29 @@ module _ (E : BlockFunction) (E-block : GivesBlocks E) where
 
     pub Wᵢ-block : UpTo m (λ i. Block (Wᵢ E Δ x y M i))
     unfolding Wᵢ
-    Wᵢ-block i a b = ⊕-block (Mᵢ-block E Δ x y M long p i a b) (E-block (row 1) i _ (M′ᵢ-block E Δ x y M long p i a b))
+    Wᵢ-block i a b = ⊕-block (Mᵢ-block M long p i a b) (E-block (row 1) i _ (M′ᵢ-block M long p i a b))
 
     pub Xᵢ-block : UpTo m (λ i. Block (Xᵢ E Δ x y M i))
     unfolding Xᵢ
-    Xᵢ-block i a b = ⊕-block (M′ᵢ-block E Δ x y M long p i a b) (E-block (row 0) 0 _ (Wᵢ-block i a b))
+    Xᵢ-block i a b = ⊕-block (M′ᵢ-block M long p i a b) (E-block (row 0) 0 _ (Wᵢ-block i a b))
 
-    pub X-added : Xall E Δ x y M ≡ uvAdded E d (sum m (Xᵢ E Δ x y M)) (Mu E Δ x y M) (Mv E Δ x y M)
+    pub X-added : Xall E Δ x y M ≡ uvAdded E d (sum m (Xᵢ E Δ x y M)) (Mu M) (Mv M)
     unfolding Xall
     X-added = refl
 
     pub X-block : Block (Xall E Δ x y M)
     X-block =
         rw X-added
-        (uvAdded-block d (sum m (Xᵢ E Δ x y M)) (Mu E Δ x y M) (Mv E Δ x y M) (omega arith) (sum-block m (Xᵢ E Δ x y M) Xᵢ-block)
-        (Mu-bytes E Δ x y M long p) (Mv-bytes E Δ x y M long p))
+        (uvAdded-block d (sum m (Xᵢ E Δ x y M)) (Mu M) (Mv M) (omega arith) (sum-block m (Xᵢ E Δ x y M) Xᵢ-block)
+        (Mu-bytes M long p) (Mv-bytes M long p))
 
     pub Sx-block : Block (Sx E Δ x y M)
     unfolding Sx
-    Sx-block = ⊕-block (⊕-block (⊕-block (Mx-block E Δ x y M long p) Δ-block) X-block) (E-block (row 0) x _ (My-block E Δ x y M long p))
+    Sx-block = ⊕-block (⊕-block (⊕-block (Mx-block M long p) Δ-block) X-block) (E-block (row 0) x _ (My-block M long p))
 
     pub Sy-block : Block (Sy E Δ x y M)
     unfolding Sy
-    Sy-block = ⊕-block (My-block E Δ x y M long p) (E-block minus1 x _ Sx-block)
+    Sy-block = ⊕-block (My-block M long p) (E-block minus1 x _ Sx-block)
 
     pub S-block : Block (Sall E Δ x y M)
     unfolding Sall
@@ -94,22 +94,22 @@ module _ (E : BlockFunction) (E-block : GivesBlocks E) where
     unfolding Cu
     Cu-bytes true e = go (eqb d 0) refl
       where
-        go : (a : Bool) → eqb d 0 ≡ a → Digits 8 d (if a then [] else Mu E Δ x y M ⊕ E minus1 4 (Sall E Δ x y M))
+        go : (a : Bool) → eqb d 0 ≡ a → Digits 8 d (if a then [] else Mu M ⊕ E minus1 4 (Sall E Δ x y M))
         go true f = as-digits (sym (eqb-true d 0 f)) (zero-digits 8 0)
-        go false f = ⊕-digits (Mu-bytes E Δ x y M long p true e) (E-block minus1 4 _ S-block) (omega (arith, leb-true d 15 e))
+        go false f = ⊕-digits (Mu-bytes M long p true e) (E-block minus1 4 _ S-block) (omega (arith, leb-true d 15 e))
     Cu-bytes false e = go (eqb d 0) refl
       where
-        go : (a : Bool) → eqb d 0 ≡ a → Digits 8 16 (if a then [] else Mu E Δ x y M ⊕ E minus1 4 (Sall E Δ x y M))
+        go : (a : Bool) → eqb d 0 ≡ a → Digits 8 16 (if a then [] else Mu M ⊕ E minus1 4 (Sall E Δ x y M))
         go true f = absurd (omega (arith, leb-false d 15 e, eqb-true d 0 f))
-        go false f = ⊕-digits (Mu-bytes E Δ x y M long p false e) (E-block minus1 4 _ S-block) (omega arith)
+        go false f = ⊕-digits (Mu-bytes M long p false e) (E-block minus1 4 _ S-block) (omega arith)
 
-    pub Cv-at : (b : Bool) → leb d 15 ≡ b → Cv E Δ x y M ≡ (if b then [] else Mv E Δ x y M ⊕ E minus1 5 (Sall E Δ x y M))
+    pub Cv-at : (b : Bool) → leb d 15 ≡ b → Cv E Δ x y M ≡ (if b then [] else Mv M ⊕ E minus1 5 (Sall E Δ x y M))
     unfolding Cv
-    Cv-at b e = ap (λ (b : Bool). if b then [] else Mv E Δ x y M ⊕ E minus1 5 (Sall E Δ x y M)) e
+    Cv-at b e = ap (λ (b : Bool). if b then [] else Mv M ⊕ E minus1 5 (Sall E Δ x y M)) e
 
     pub Cv-bytes : (b : Bool) → leb d 15 ≡ b → Digits 8 (if b then 0 else d - 16) (Cv E Δ x y M)
     Cv-bytes true e = subst⁻¹ (Digits 8 0) (Cv-at true e) (zero-digits 8 0)
-    Cv-bytes false e = subst⁻¹ (Digits 8 (d - 16)) (Cv-at false e) (⊕-digits (Mv-bytes E Δ x y M long p false e) (E-block minus1 5 _ S-block) (omega arith))
+    Cv-bytes false e = subst⁻¹ (Digits 8 (d - 16)) (Cv-at false e) (⊕-digits (Mv-bytes M long p false e) (E-block minus1 5 _ S-block) (omega arith))
 
     pub Y-added : Yall E Δ x y M ≡ uvAdded E d (sum m (Yᵢ E Δ x y M)) (Cu E Δ x y M) (Cv E Δ x y M)
     unfolding Yall

@@ -96,20 +96,20 @@ module _
   Z-is i a b = ap₂ _⊕_ (X-is i a b) (S′-is i) ∙ twice (Wᵢ-block E E-block Δ Δ-block x y M long p i a b) (S′ᵢ-block E E-block Δ Δ-block x y M long p i)
 
   -- so the pairs are M's
-  C′-is : UpTo m (λ i. C′ᵢ E Δ y x C i ≡ M′ᵢ E Δ x y M i)
+  C′-is : UpTo m (λ i. C′ᵢ E Δ y x C i ≡ M′ᵢ M i)
   unfolding C′ᵢ Xᵢ
   C′-is i a b =
       ap₂ (λ (u v : Bytes). u ⊕ E (row 0) 0 v) (Y-is i a b) (Z-is i a b)
-      ∙ twice (M′ᵢ-block E Δ x y M long p i a b) (E-block (row 0) 0 _ (Wᵢ-block E E-block Δ Δ-block x y M long p i a b))
+      ∙ twice (M′ᵢ-block M long p i a b) (E-block (row 0) 0 _ (Wᵢ-block E E-block Δ Δ-block x y M long p i a b))
 
-  C-is : UpTo m (λ i. Cᵢ E Δ y x C i ≡ Mᵢ E Δ x y M i)
+  C-is : UpTo m (λ i. Cᵢ E Δ y x C i ≡ Mᵢ M i)
   unfolding Cᵢ Wᵢ
   C-is i a b =
       ap₂ (λ (u v : Bytes). u ⊕ E (row 1) i v) (Z-is i a b) (C′-is i a b)
-      ∙ twice (Mᵢ-block E Δ x y M long p i a b) (E-block (row 1) i _ (M′ᵢ-block E Δ x y M long p i a b))
+      ∙ twice (Mᵢ-block M long p i a b) (E-block (row 1) i _ (M′ᵢ-block M long p i a b))
 
   -- and so are u and v
-  Cu-is : Cu E Δ y x C ≡ Mu E Δ x y M
+  Cu-is : Cu E Δ y x C ≡ Mu M
   unfolding Cu
   Cu-is =
       (λ i. if eqb (rest (len i)) 0 then [] else core-Mu E E-block Δ Δ-block x y M long p i ⊕ E minus1 4 (S-is i))
@@ -119,13 +119,13 @@ module _
       mask = E-block minus1 4 _ (S-block E E-block Δ Δ-block x y M long p)
 
       go : (a : Bool) → eqb d 0 ≡ a → (b : Bool) → leb d 15 ≡ b
-          → (if a then [] else (if a then [] else Mu E Δ x y M ⊕ E minus1 4 (Sall E Δ x y M)) ⊕ E minus1 4 (Sall E Δ x y M)) ≡ Mu E Δ x y M
-      go true e true f = sym (no-entries (Mu E Δ x y M) (Mu-bytes E Δ x y M long p true f .len ∙ eqb-true d 0 e))
+          → (if a then [] else (if a then [] else Mu M ⊕ E minus1 4 (Sall E Δ x y M)) ⊕ E minus1 4 (Sall E Δ x y M)) ≡ Mu M
+      go true e true f = sym (no-entries (Mu M) (Mu-bytes M long p true f .len ∙ eqb-true d 0 e))
       go true e false f = absurd (omega (arith, eqb-true d 0 e, leb-false d 15 f))
-      go false e true f = ⊕-cancel (Mu E Δ x y M) (E minus1 4 (Sall E Δ x y M)) (omega (arith, Mu-bytes E Δ x y M long p true f .len, leb-true d 15 f, mask .len))
-      go false e false f = twice (Mu-bytes E Δ x y M long p false f) mask
+      go false e true f = ⊕-cancel (Mu M) (E minus1 4 (Sall E Δ x y M)) (omega (arith, Mu-bytes M long p true f .len, leb-true d 15 f, mask .len))
+      go false e false f = twice (Mu-bytes M long p false f) mask
 
-  Cv-is : Cv E Δ y x C ≡ Mv E Δ x y M
+  Cv-is : Cv E Δ y x C ≡ Mv M
   unfolding Cv
   Cv-is =
       (λ i. if leb (rest (len i)) 15 then [] else core-Mv E E-block Δ Δ-block x y M long p i ⊕ E minus1 5 (S-is i))
@@ -135,9 +135,9 @@ module _
       mask = E-block minus1 5 _ (S-block E E-block Δ Δ-block x y M long p)
 
       go : (b : Bool) → leb d 15 ≡ b
-          → (if b then [] else (if b then [] else Mv E Δ x y M ⊕ E minus1 5 (Sall E Δ x y M)) ⊕ E minus1 5 (Sall E Δ x y M)) ≡ Mv E Δ x y M
-      go true f = sym (no-entries (Mv E Δ x y M) (Mv-bytes E Δ x y M long p true f .len))
-      go false f = ⊕-cancel (Mv E Δ x y M) (E minus1 5 (Sall E Δ x y M)) (omega (arith, Mv-bytes E Δ x y M long p false f .len, mask .len))
+          → (if b then [] else (if b then [] else Mv M ⊕ E minus1 5 (Sall E Δ x y M)) ⊕ E minus1 5 (Sall E Δ x y M)) ≡ Mv M
+      go true f = sym (no-entries (Mv M) (Mv-bytes M long p true f .len))
+      go false f = ⊕-cancel (Mv M) (E minus1 5 (Sall E Δ x y M)) (omega (arith, Mv-bytes M long p false f .len, mask .len))
 
   Yall-is : Yall E Δ y x C ≡ Xall E Δ x y M
   unfolding Xall Yall
@@ -146,26 +146,26 @@ module _
       λ i. uvAdded E (rest (len i)) (s i) (Cu-is i) (Cv-is i)
 
   -- and the last two blocks
-  Cy-is : Cy E Δ y x C ≡ My E Δ x y M
+  Cy-is : Cy E Δ y x C ≡ My M
   unfolding Cy Sy
   Cy-is =
       ap₂ (λ (u v : Bytes). u ⊕ E minus1 x v) Sx-is Sy-is
-      ∙ twice (My-block E Δ x y M long p) (E-block minus1 x _ (Sx-block E E-block Δ Δ-block x y M long p))
+      ∙ twice (My-block M long p) (E-block minus1 x _ (Sx-block E E-block Δ Δ-block x y M long p))
 
-  Cx-is : Cx E Δ y x C ≡ Mx E Δ x y M
+  Cx-is : Cx E Δ y x C ≡ Mx M
   unfolding Cx Sx
   Cx-is =
       (λ i. Sy-is i ⊕ Δ ⊕ Yall-is i ⊕ E (row 0) x (Cy-is i))
-      ∙ thrice (Mx-block E Δ x y M long p) Δ-block (X-block E E-block Δ Δ-block x y M long p) (E-block (row 0) x _ (My-block E Δ x y M long p))
+      ∙ thrice (Mx-block M long p) Δ-block (X-block E E-block Δ Δ-block x y M long p) (E-block (row 0) x _ (My-block M long p))
 
   -- AEZ-core with x and y exchanged gives the string back
   pub core-core : core E Δ y x (core E Δ x y M) ≡ M
   unfolding core
   core-core =
-      let js : join (pairs (length C)) (λ i. Cᵢ E Δ y x C i ++ C′ᵢ E Δ y x C i) ≡ join m (λ i. Mᵢ E Δ x y M i ++ M′ᵢ E Δ x y M i) =
+      let js : join (pairs (length C)) (λ i. Cᵢ E Δ y x C i ++ C′ᵢ E Δ y x C i) ≡ join m (λ i. Mᵢ M i ++ M′ᵢ M i) =
       ap (λ (n : ℕ). join (pairs n) (λ i. Cᵢ E Δ y x C i ++ C′ᵢ E Δ y x C i)) len ∙ join-ext m _ _ (λ i a b. ap₂ _++_ (C-is i a b) (C′-is i a b)) in
       (λ i. js i ++ Cu-is i ++ Cv-is i ++ Cx-is i ++ Cy-is i)
-      ∙ ap (λ (l : Bytes). l ++ Mx E Δ x y M ++ My E Δ x y M)
-      (append-assoc (join m (λ i. Mᵢ E Δ x y M i ++ M′ᵢ E Δ x y M i)) (Mu E Δ x y M) (Mv E Δ x y M)
-      ∙ ap (λ (l : Bytes). join m (λ i. Mᵢ E Δ x y M i ++ M′ᵢ E Δ x y M i) ++ l) (Mu-Mv E Δ x y M long p (leb d 15) refl))
-      ∙ parts-joined E Δ x y M long p
+      ∙ ap (λ (l : Bytes). l ++ Mx M ++ My M)
+      (append-assoc (join m (λ i. Mᵢ M i ++ M′ᵢ M i)) (Mu M) (Mv M)
+      ∙ ap (λ (l : Bytes). join m (λ i. Mᵢ M i ++ M′ᵢ M i) ++ l) (Mu-Mv M long p (leb d 15) refl))
+      ∙ parts-joined M long p

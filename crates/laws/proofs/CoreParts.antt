@@ -9,7 +9,6 @@ use lib.Dec.{leb}
 use lib.ListN.{length, take, drop, take-append-drop}
 use lib.Seq.{take-add, drop-drop}
 use Rattle.paper.specs.Strings.{Bytes, Digits, Block, if_then_else_, join}
-use Rattle.paper.specs.Figure6.{BlockFunction}
 use Rattle.paper.specs.Figure5.{pairs, rest, Mᵢ, M′ᵢ, Muv, Mx, My, Mu, Mv}
 use Rattle.laws.proofs.Digits.{take-digits, drop-digits, zero-digits, as-digits}
 use Rattle.laws.proofs.Joins.{UpTo}
@@ -22,7 +21,7 @@ cut n h = omega arith
 part : {n : ℕ} {X : Bytes} (a k : ℕ) → a + k ≤ n → Digits 8 n X → Digits 8 k (take k (drop a X))
 part a k h p = take-digits k (omega arith) (drop-digits a p)
 
-module _ (E : BlockFunction) (Δ : Bytes) (x y : ℕ) (M : Bytes) (long : 32 ≤ length M) (p : Digits 8 (length M) M) where
+module _ (M : Bytes) (long : 32 ≤ length M) (p : Digits 8 (length M) M) where
   abbrev m : ℕ
   m = pairs (length M)
 
@@ -32,37 +31,37 @@ module _ (E : BlockFunction) (Δ : Bytes) (x y : ℕ) (M : Bytes) (long : 32 ≤
   whole : 32 * m + d + 32 ≡ length M
   whole = cut (length M) long
 
-  pub Mᵢ-block : UpTo m (λ i. Block (Mᵢ E Δ x y M i))
+  pub Mᵢ-block : UpTo m (λ i. Block (Mᵢ M i))
   Mᵢ-block i a b = part (32 * (i - 1)) 16 (omega (arith, whole)) p
 
-  pub M′ᵢ-block : UpTo m (λ i. Block (M′ᵢ E Δ x y M i))
+  pub M′ᵢ-block : UpTo m (λ i. Block (M′ᵢ M i))
   M′ᵢ-block i a b = part (32 * (i - 1) + 16) 16 (omega (arith, whole)) p
 
-  pub Muv-bytes : Digits 8 d (Muv E Δ x y M)
+  pub Muv-bytes : Digits 8 d (Muv M)
   Muv-bytes = part (32 * m) d (omega (arith, whole)) p
 
-  pub Mx-block : Block (Mx E Δ x y M)
+  pub Mx-block : Block (Mx M)
   Mx-block = part (32 * m + d) 16 (omega (arith, whole)) p
 
-  pub My-block : Block (My E Δ x y M)
+  pub My-block : Block (My M)
   My-block = as-digits (omega (arith, whole)) (drop-digits (32 * m + d + 16) p)
 
   -- u is all of M_uv, or its first block
-  pub Mu-bytes : (b : Bool) → leb d 15 ≡ b → Digits 8 (if b then d else 16) (Mu E Δ x y M)
+  pub Mu-bytes : (b : Bool) → leb d 15 ≡ b → Digits 8 (if b then d else 16) (Mu M)
   Mu-bytes true e = rw e Muv-bytes
   Mu-bytes false e = rw e (take-digits 16 (omega (arith, leb-false d 15 e)) Muv-bytes)
 
-  pub Mv-bytes : (b : Bool) → leb d 15 ≡ b → Digits 8 (if b then 0 else d - 16) (Mv E Δ x y M)
+  pub Mv-bytes : (b : Bool) → leb d 15 ≡ b → Digits 8 (if b then 0 else d - 16) (Mv M)
   Mv-bytes true e = rw e (zero-digits 8 0)
   Mv-bytes false e = rw e (drop-digits 16 Muv-bytes)
 
   -- u and v are M_uv
-  pub Mu-Mv : (b : Bool) → leb d 15 ≡ b → Mu E Δ x y M ++ Mv E Δ x y M ≡ Muv E Δ x y M
-  Mu-Mv true e = rw e (append-nil (Muv E Δ x y M))
-  Mu-Mv false e = rw e (take-append-drop 16 (Muv E Δ x y M))
+  pub Mu-Mv : (b : Bool) → leb d 15 ≡ b → Mu M ++ Mv M ≡ Muv M
+  Mu-Mv true e = rw e (append-nil (Muv M))
+  Mu-Mv false e = rw e (take-append-drop 16 (Muv M))
 
   -- the pairs are the first 32 m bytes
-  pub pairs-joined : (k : ℕ) → join k (λ i. Mᵢ E Δ x y M i ++ M′ᵢ E Δ x y M i) ≡ take (32 * k) M
+  pub pairs-joined : (k : ℕ) → join k (λ i. Mᵢ M i ++ M′ᵢ M i) ≡ take (32 * k) M
   unfolding join
   pairs-joined zero = refl
   pairs-joined (suc k) =
@@ -75,10 +74,10 @@ module _ (E : BlockFunction) (Δ : Bytes) (x y : ℕ) (M : Bytes) (long : 32 ≤
       ∙ ap (λ (n : ℕ). take n M) next
 
   -- and all parts joined are the string
-  pub parts-joined : join m (λ i. Mᵢ E Δ x y M i ++ M′ᵢ E Δ x y M i) ++ Muv E Δ x y M ++ Mx E Δ x y M ++ My E Δ x y M ≡ M
+  pub parts-joined : join m (λ i. Mᵢ M i ++ M′ᵢ M i) ++ Muv M ++ Mx M ++ My M ≡ M
   parts-joined =
       let R : Bytes = drop (32 * m) M in
-      ap (λ (l : Bytes). l ++ Muv E Δ x y M ++ Mx E Δ x y M ++ My E Δ x y M) (pairs-joined m)
+      ap (λ (l : Bytes). l ++ Muv M ++ Mx M ++ My M) (pairs-joined m)
       ∙ (λ i. take (32 * m) M ++ take d R ++ take 16 (sym (drop-drop d (32 * m) M) i) ++ (sym (drop-drop 16 (32 * m + d) M) ∙ ap (drop 16) (sym (drop-drop d (32 * m) M))) i)
       ∙ append-assoc (take (32 * m) M ++ take d R) (take 16 (drop d R)) (drop 16 (drop d R))
       ∙ ap (λ (l : Bytes). (take (32 * m) M ++ take d R) ++ l) (take-append-drop 16 (drop d R))

@@ -76,10 +76,10 @@ module _
       (C′ᵢ-block E E-block Δ Δ-block x y M long p i a b .len)
       (pairs-at i a b)
 
-  pub core-Mᵢ : UpTo m (λ i. Mᵢ E Δ y x C i ≡ Cᵢ E Δ x y M i)
+  pub core-Mᵢ : UpTo m (λ i. Mᵢ C i ≡ Cᵢ E Δ x y M i)
   core-Mᵢ i a b = blocks-at i a b .0
 
-  pub core-M′ᵢ : UpTo m (λ i. M′ᵢ E Δ y x C i ≡ C′ᵢ E Δ x y M i)
+  pub core-M′ᵢ : UpTo m (λ i. M′ᵢ C i ≡ C′ᵢ E Δ x y M i)
   core-M′ᵢ i a b = ap (take 16) (sym (drop-drop 16 (32 * (i - 1)) C)) ∙ blocks-at i a b .1
 
   -- what follows the pairs, and what follows u and v
@@ -89,30 +89,30 @@ module _
   ends : drop (32 * m + d) C ≡ xy
   ends = sym (drop-drop d (32 * m) C) ∙ ap (drop d) tail ∙ drop-at uv xy d (uv-long .len)
 
-  core-Muv : Muv E Δ y x C ≡ uv
+  core-Muv : Muv C ≡ uv
   core-Muv = ap (λ (n : ℕ). take (rest n) (drop (32 * pairs n) C)) same-length ∙ ap (take d) tail ∙ take-at uv xy d (uv-long .len)
 
-  pub core-Mx : Mx E Δ y x C ≡ Cx E Δ x y M
+  pub core-Mx : Mx C ≡ Cx E Δ x y M
   core-Mx =
       ap (λ (n : ℕ). take 16 (drop (32 * pairs n + rest n) C)) same-length
       ∙ ap (take 16) ends
       ∙ take-at (Cx E Δ x y M) (Cy E Δ x y M) 16 (x-long .len)
 
-  pub core-My : My E Δ y x C ≡ Cy E Δ x y M
+  pub core-My : My C ≡ Cy E Δ x y M
   core-My =
       ap (λ (n : ℕ). drop (32 * pairs n + rest n + 16) C) same-length
       ∙ sym (drop-drop 16 (32 * m + d) C)
       ∙ ap (drop 16) ends
       ∙ drop-at (Cx E Δ x y M) (Cy E Δ x y M) 16 (x-long .len)
 
-  pub core-Mu : Mu E Δ y x C ≡ Cu E Δ x y M
+  pub core-Mu : Mu C ≡ Cu E Δ x y M
   core-Mu = (λ i. if leb (rest (same-length i)) 15 then core-Muv i else take 16 (core-Muv i)) ∙ go (leb d 15) refl
     where
       go : (b : Bool) → leb d 15 ≡ b → (if b then uv else take 16 uv) ≡ Cu E Δ x y M
       go true e = ap (λ (l : Bytes). Cu E Δ x y M ++ l) (Cv-at E E-block Δ Δ-block x y M long p true e) ∙ append-nil (Cu E Δ x y M)
       go false e = take-at (Cu E Δ x y M) (Cv E Δ x y M) 16 (Cu-bytes E E-block Δ Δ-block x y M long p false e .len)
 
-  pub core-Mv : Mv E Δ y x C ≡ Cv E Δ x y M
+  pub core-Mv : Mv C ≡ Cv E Δ x y M
   core-Mv = (λ i. if leb (rest (same-length i)) 15 then [] else drop 16 (core-Muv i)) ∙ go (leb d 15) refl
     where
       go : (b : Bool) → leb d 15 ≡ b → (if b then [] else drop 16 uv) ≡ Cv E Δ x y M

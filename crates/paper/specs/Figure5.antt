@@ -74,8 +74,8 @@ pairs n = n / 32 - 1
 abbrev pub rest : ℕ → ℕ
 rest n = n % 32
 
--- 220 to 240. x and y are 1 and 2 for enciphering, and exchanged for deciphering
-module _ (E : BlockFunction) (Δ : Bytes) (x y : ℕ) (M : Bytes) where
+-- 220 to 225: what needs the string alone
+module _ (M : Bytes) where
   -- 221, 222: M_1 M′_1 .. M_m M′_m M_uv M_x M_y ← M
   abbrev pub m : ℕ
   m = pairs (length M)
@@ -105,26 +105,28 @@ module _ (E : BlockFunction) (Δ : Bytes) (x y : ℕ) (M : Bytes) where
   abbrev pub Mv : Bytes
   Mv = if leb d 15 then [] else drop 16 Muv
 
+-- 226 to 240. x and y are 1 and 2 for enciphering, and exchanged for deciphering
+module _ (E : BlockFunction) (Δ : Bytes) (x y : ℕ) (M : Bytes) where
   -- 226
   unfoldable pub Wᵢ : ℕ → Bytes
-  Wᵢ i = Mᵢ i ⊕ E (row 1) i (M′ᵢ i)
+  Wᵢ i = Mᵢ M i ⊕ E (row 1) i (M′ᵢ M i)
 
   unfoldable pub Xᵢ : ℕ → Bytes
-  Xᵢ i = M′ᵢ i ⊕ E (row 0) 0 (Wᵢ i)
+  Xᵢ i = M′ᵢ M i ⊕ E (row 0) 0 (Wᵢ i)
 
   -- 227 to 229
   unfoldable pub X : Bytes
   X =
-      if eqb d 0 then sum m Xᵢ
-      else if leb d 15 then sum m Xᵢ ⊕ E (row 0) 4 (pad10* Mu)
-      else sum m Xᵢ ⊕ E (row 0) 4 Mu ⊕ E (row 0) 5 (pad10* Mv)
+      if eqb (d M) 0 then sum (m M) Xᵢ
+      else if leb (d M) 15 then sum (m M) Xᵢ ⊕ E (row 0) 4 (pad10* (Mu M))
+      else sum (m M) Xᵢ ⊕ E (row 0) 4 (Mu M) ⊕ E (row 0) 5 (pad10* (Mv M))
 
   -- 230
   unfoldable pub Sx : Bytes
-  Sx = Mx ⊕ Δ ⊕ X ⊕ E (row 0) x My
+  Sx = Mx M ⊕ Δ ⊕ X ⊕ E (row 0) x (My M)
 
   unfoldable pub Sy : Bytes
-  Sy = My ⊕ E minus1 x Sx
+  Sy = My M ⊕ E minus1 x Sx
 
   unfoldable pub S : Bytes
   S = Sx ⊕ Sy
@@ -148,16 +150,16 @@ module _ (E : BlockFunction) (Δ : Bytes) (x y : ℕ) (M : Bytes) where
 
   -- 234 to 238
   unfoldable pub Cu : Bytes
-  Cu = if eqb d 0 then [] else Mu ⊕ E minus1 4 S
+  Cu = if eqb (d M) 0 then [] else Mu M ⊕ E minus1 4 S
 
   unfoldable pub Cv : Bytes
-  Cv = if leb d 15 then [] else Mv ⊕ E minus1 5 S
+  Cv = if leb (d M) 15 then [] else Mv M ⊕ E minus1 5 S
 
   unfoldable pub Y : Bytes
   Y =
-      if eqb d 0 then sum m Yᵢ
-      else if leb d 15 then sum m Yᵢ ⊕ E (row 0) 4 (pad10* Cu)
-      else sum m Yᵢ ⊕ E (row 0) 4 Cu ⊕ E (row 0) 5 (pad10* Cv)
+      if eqb (d M) 0 then sum (m M) Yᵢ
+      else if leb (d M) 15 then sum (m M) Yᵢ ⊕ E (row 0) 4 (pad10* Cu)
+      else sum (m M) Yᵢ ⊕ E (row 0) 4 Cu ⊕ E (row 0) 5 (pad10* Cv)
 
   -- 239
   unfoldable pub Cy : Bytes
@@ -168,7 +170,7 @@ module _ (E : BlockFunction) (Δ : Bytes) (x y : ℕ) (M : Bytes) where
 
   -- 240
   unfoldable pub core : Bytes
-  core = join m (λ i. Cᵢ i ++ C′ᵢ i) ++ Cu ++ Cv ++ Cx ++ Cy
+  core = join (m M) (λ i. Cᵢ i ++ C′ᵢ i) ++ Cu ++ Cv ++ Cx ++ Cy
 
 module _ (E : BlockFunction) (Δ : Bytes) where
   abbrev pub encipherCore : Bytes → Bytes

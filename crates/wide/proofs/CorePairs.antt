@@ -29,10 +29,10 @@ module _
   fits : UpTo m (λ i. 32 ≤ length (drop (32 * (i - 1)) M))
   fits i a b = simp length-drop (omega (arith, cut (length M) long))
 
-  left-is : UpTo m (λ i. take 16 (pairAt M i) ≡ Mᵢ E Δ x y M i)
+  left-is : UpTo m (λ i. take 16 (pairAt M i) ≡ Mᵢ M i)
   left-is i a b = take-take 16 32 (drop (32 * (i - 1)) M) (omega arith)
 
-  right-is : UpTo m (λ i. take 16 (drop 16 (pairAt M i)) ≡ M′ᵢ E Δ x y M i)
+  right-is : UpTo m (λ i. take 16 (drop 16 (pairAt M i)) ≡ M′ᵢ M i)
   right-is i a b = back (drop (32 * (i - 1)) M) (fits i a b) ∙ ap (take 16) (drop-drop 16 (32 * (i - 1)) M)
 
   W-is : UpTo m (λ i. firstW E i (pairAt M i) ≡ Wᵢ E Δ x y M i)
@@ -46,15 +46,15 @@ module _
   W-long : UpTo m (λ i. length (Wᵢ E Δ x y M i) ≡ 16)
   unfolding Wᵢ
   W-long i a b =
-      let l : length (Mᵢ E Δ x y M i) ≡ 16 = length-take-le 16 (drop (32 * (i - 1)) M) (omega (arith, fits i a b)) in
-      ⊕-length (Mᵢ E Δ x y M i) (E (row 1) i (M′ᵢ E Δ x y M i)) (omega (arith, long1 i (M′ᵢ E Δ x y M i))) ∙ l
+      let l : length (Mᵢ M i) ≡ 16 = length-take-le 16 (drop (32 * (i - 1)) M) (omega (arith, fits i a b)) in
+      ⊕-length (Mᵢ M i) (E (row 1) i (M′ᵢ M i)) (omega (arith, long1 i (M′ᵢ M i))) ∙ l
 
   X-long : UpTo m (λ i. length (Xᵢ E Δ x y M i) ≡ 16)
   unfolding Xᵢ
   X-long i a b =
-      let l : length (M′ᵢ E Δ x y M i) ≡ 16 =
+      let l : length (M′ᵢ M i) ≡ 16 =
       length-take-le 16 (drop (32 * (i - 1) + 16) M) (omega (arith, length-drop (32 * (i - 1) + 16) M, length-drop (32 * (i - 1)) M, fits i a b)) in
-      ⊕-length (M′ᵢ E Δ x y M i) (E (row 0) 0 (Wᵢ E Δ x y M i)) (omega (arith, long0 0 (Wᵢ E Δ x y M i))) ∙ l
+      ⊕-length (M′ᵢ M i) (E (row 0) 0 (Wᵢ E Δ x y M i)) (omega (arith, long0 0 (Wᵢ E Δ x y M i))) ∙ l
 
   pub WX-long : UpTo m (λ i. length (Wᵢ E Δ x y M i ++ Xᵢ E Δ x y M i) ≡ 32)
   WX-long i a b = length-append (Wᵢ E Δ x y M i) (Xᵢ E Δ x y M i) ∙ omega (arith, W-long i a b, X-long i a b)

@@ -23,14 +23,14 @@ module _ (E : BlockFunction) (Δ : Bytes) (x y : ℕ) (M : Bytes) (long : 32 ≤
   abbrev d : ℕ
   d = rest (length M)
 
-  pub uv-long : length (Muv E Δ x y M) ≡ d
+  pub uv-long : length (Muv M) ≡ d
   uv-long = length-take-le d (drop (32 * m) M) (omega (arith, cut (length M) long, length-drop (32 * m) M))
 
   pub xy-long : length (drop (32 * m + d) M) ≡ 32
   xy-long = length-drop (32 * m + d) M ∙ omega (arith, cut (length M) long)
 
   -- 227 to 229
-  pub X-all : (t u : Bytes) → t ≡ sum m (Xᵢ E Δ x y M) → u ≡ Muv E Δ x y M → withUv E t u ≡ Xall E Δ x y M
+  pub X-all : (t u : Bytes) → t ≡ sum m (Xᵢ E Δ x y M) → u ≡ Muv M → withUv E t u ≡ Xall E Δ x y M
   unfolding withUv Xall
   X-all t u p q =
       let e : length u ≡ d = ap length q ∙ uv-long in
@@ -39,7 +39,7 @@ module _ (E : BlockFunction) (Δ : Bytes) (x y : ℕ) (M : Bytes) (long : 32 ≤
       else p i ⊕ E (row 0) 4 (if leb (e i) 15 then q i else take 16 (q i)) ⊕ E (row 0) 5 (pad10* (if leb (e i) 15 then [] else drop 16 (q i)))
 
   -- 230
-  My-is : (t : Bytes) → t ≡ drop (32 * m + d) M → take 16 (drop 16 t) ≡ My E Δ x y M
+  My-is : (t : Bytes) → t ≡ drop (32 * m + d) M → take 16 (drop 16 t) ≡ My M
   My-is t q =
       ap (λ (l : Bytes). take 16 (drop 16 l)) q
       ∙ take-all 16 (drop 16 (drop (32 * m + d) M)) (omega (arith, length-drop 16 (drop (32 * m + d) M), xy-long))
@@ -58,30 +58,30 @@ module _ (E : BlockFunction) (Δ : Bytes) (x y : ℕ) (M : Bytes) (long : 32 ≤
   S-is a b c p q e = e ∙ ap₂ _⊕_ p q
 
   -- 234 to 238
-  Cu-is : (s u : Bytes) → s ≡ Sall E Δ x y M → u ≡ Muv E Δ x y M → uMasked E s u ≡ Cu E Δ x y M
+  Cu-is : (s u : Bytes) → s ≡ Sall E Δ x y M → u ≡ Muv M → uMasked E s u ≡ Cu E Δ x y M
   unfolding uMasked Cu
   Cu-is s u p q =
       let e : length u ≡ d = ap length q ∙ uv-long in
       λ i. if eqb (e i) 0 then [] else (if leb (e i) 15 then q i else take 16 (q i)) ⊕ E minus1 4 (p i)
 
-  Cv-is : (s u : Bytes) → s ≡ Sall E Δ x y M → u ≡ Muv E Δ x y M → vMasked E s u ≡ Cv E Δ x y M
+  Cv-is : (s u : Bytes) → s ≡ Sall E Δ x y M → u ≡ Muv M → vMasked E s u ≡ Cv E Δ x y M
   unfolding vMasked Cv
   Cv-is s u p q =
       let e : length u ≡ d = ap length q ∙ uv-long in
       λ i. if leb (e i) 15 then [] else (if leb (e i) 15 then [] else drop 16 (q i)) ⊕ E minus1 5 (p i)
 
-  pub uv-is : (s u : Bytes) → s ≡ Sall E Δ x y M → u ≡ Muv E Δ x y M → uMasked E s u ++ vMasked E s u ≡ Cu E Δ x y M ++ Cv E Δ x y M
+  pub uv-is : (s u : Bytes) → s ≡ Sall E Δ x y M → u ≡ Muv M → uMasked E s u ++ vMasked E s u ≡ Cu E Δ x y M ++ Cv E Δ x y M
   uv-is s u p q = ap₂ _++_ (Cu-is s u p q) (Cv-is s u p q)
 
   no-v : d ≤ 15 → Cv E Δ x y M ≡ []
   unfolding Cv
   no-v h = rw (le-leb d 15 h)
 
-  has-u : 15 < d → Cu E Δ x y M ≡ take 16 (Muv E Δ x y M) ⊕ E minus1 4 (Sall E Δ x y M)
+  has-u : 15 < d → Cu E Δ x y M ≡ take 16 (Muv M) ⊕ E minus1 4 (Sall E Δ x y M)
   unfolding Cu
   has-u h = rw (ne-eqb d 0 (λ e. omega arith), lt-leb d 15 h)
 
-  has-v : 15 < d → Cv E Δ x y M ≡ drop 16 (Muv E Δ x y M) ⊕ E minus1 5 (Sall E Δ x y M)
+  has-v : 15 < d → Cv E Δ x y M ≡ drop 16 (Muv M) ⊕ E minus1 5 (Sall E Δ x y M)
   unfolding Cv
   has-v h = rw (lt-leb d 15 h)
 
@@ -89,7 +89,7 @@ module _ (E : BlockFunction) (Δ : Bytes) (x y : ℕ) (M : Bytes) (long : 32 ≤
     -- from 16 bytes on u has 16
     u-long : 15 < d → length (Cu E Δ x y M) ≡ 16
     u-long h =
-        let U : Bytes = Muv E Δ x y M in
+        let U : Bytes = Muv M in
         let s : Bytes = Sall E Δ x y M in
         let a : length (Cu E Δ x y M) ≡ length (take 16 U ⊕ E minus1 4 s) = ap length (has-u h) in
         let b : length (Cv E Δ x y M) ≡ length (drop 16 U ⊕ E minus1 5 s) = ap length (has-v h) in

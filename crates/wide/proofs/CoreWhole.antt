@@ -40,7 +40,7 @@ module _
   K = join m (λ i. Cᵢ E Δ x y M i ++ C′ᵢ E Δ x y M i)
 
   abbrev U : Bytes
-  U = Muv E Δ x y M
+  U = Muv M
 
   abbrev L : Bytes
   L = drop end M
