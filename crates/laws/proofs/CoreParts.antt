@@ -1,21 +1,45 @@
 -- Lines 221 to 225: a string of 32 bytes or more in its parts, and back.
 use mathlib.Core.Bool.{Bool, true, false}
-use mathlib.Core.List.{_++_, append-assoc, append-nil}
+use mathlib.Core.List.{[], _++_, append-assoc, append-nil}
 use mathlib.Core.Path.{_≡_, refl, ap, ap₂, sym, _∙_}
 use Prim.Native.Nat.{ℕ, zero, suc, _+_, _-_, _*_, _≤_}
 use native.Mathlib.Omega.{arith}
 use borrow.Author.Tests.{leb-false}
 use lib.Dec.{leb}
-use lib.ListN.{length, take, drop, take-append-drop}
-use lib.Seq.{take-add, drop-drop}
+use lib.ListN.{length, take, drop, length-append, take-append-drop}
+use lib.Seq.{take-at, drop-at, take-take, take-add, drop-drop}
 use Rattle.paper.specs.Strings.{Bytes, Digits, Block, if_then_else_, join}
 use Rattle.paper.specs.Figure5.{pairs, rest, Mᵢ, M′ᵢ, Muv, Mx, My, Mu, Mv}
 use Rattle.laws.proofs.Digits.{take-digits, drop-digits, zero-digits, as-digits}
-use Rattle.laws.proofs.Joins.{UpTo}
+use Rattle.laws.proofs.Joins.{UpTo, join-at}
 
 -- 32 bytes a pair, the rest, and two blocks
 pub cut : (n : ℕ) → 32 ≤ n → 32 * pairs n + rest n + 32 ≡ n
 cut n h = omega arith
+
+-- u and v of a part of d bytes
+abbrev pub uOf : ℕ → Bytes → Bytes
+uOf d t = if leb d 15 then t else take 16 t
+
+abbrev pub vOf : ℕ → Bytes → Bytes
+vOf d t = if leb d 15 then [] else drop 16 t
+
+-- two blocks that stand after each other
+two-blocks : (l a b : Bytes) → length a ≡ 16 → length b ≡ 16 → take 32 l ≡ a ++ b → (take 16 l ≡ a) × (take 16 (drop 16 l) ≡ b)
+two-blocks l a b p q e =
+    let front : take 16 l ≡ a = sym (take-take 16 32 l (omega arith)) ∙ ap (take 16) e ∙ take-at a b 16 p in
+    let both : take 16 l ++ take 16 (drop 16 l) ≡ a ++ b = sym (take-add 16 16 l) ∙ e in
+    (front, sym (drop-at (take 16 l) (take 16 (drop 16 l)) 16 (ap length front ∙ p)) ∙ ap (drop 16) both ∙ drop-at a b 16 p)
+
+-- the pairs of a string that begins with m pairs of blocks are these
+pub pairs-of : (m : ℕ) (f g : ℕ → Bytes) (N R : Bytes) → UpTo m (λ i. Block (f i)) → UpTo m (λ i. Block (g i))
+    → N ≡ join m (λ i. f i ++ g i) ++ R → UpTo m (λ i. (Mᵢ N i ≡ f i) × (M′ᵢ N i ≡ g i))
+pairs-of m f g N R p q e i a b =
+    let pair : take 32 (drop (32 * (i - 1)) N) ≡ f i ++ g i =
+    ap (λ (l : Bytes). take 32 (drop (32 * (i - 1)) l)) e
+    ∙ join-at m i (λ j. f j ++ g j) R (λ j c d. length-append (f j) (g j) ∙ omega (arith, p j c d .len, q j c d .len)) a b in
+    let both = two-blocks (drop (32 * (i - 1)) N) (f i) (g i) (p i a b .len) (q i a b .len) pair in
+    (both .0, ap (take 16) (sym (drop-drop 16 (32 * (i - 1)) N)) ∙ both .1)
 
 -- a part of n bytes
 part : {n : ℕ} {X : Bytes} (a k : ℕ) → a + k ≤ n → Digits 8 n X → Digits 8 k (take k (drop a X))

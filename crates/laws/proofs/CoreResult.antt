@@ -2,26 +2,19 @@
 use mathlib.Core.Bool.{Bool, true, false}
 use mathlib.Core.List.{[], _++_, append-assoc, append-nil}
 use mathlib.Core.Path.{_≡_, refl, ap, sym, _∙_}
-use Prim.Native.Nat.{ℕ, _+_, _-_, _*_, _≤_}
+use Prim.Native.Nat.{ℕ, _+_, _*_, _≤_}
 use native.Mathlib.Omega.{arith}
 use lib.Dec.{leb}
 use lib.ListN.{length, take, drop}
-use lib.Seq.{take-at, drop-at, take-take, drop-drop, take-add}
+use lib.Seq.{take-at, drop-at, drop-drop}
 use Rattle.paper.specs.Strings.{Bytes, Digits, Block, if_then_else_, join}
 use Rattle.paper.specs.Figure6.{BlockFunction}
 use Rattle.paper.specs.Figure5.{pairs, rest, Mᵢ, M′ᵢ, Muv, Mx, My, Mu, Mv, C′ᵢ, Cᵢ, Cu, Cv, Cy, Cx, core}
 use Rattle.laws.proofs.BlockFunction.{GivesBlocks}
 use Rattle.laws.proofs.Digits.{append-digits, as-digits}
-use Rattle.laws.proofs.Joins.{UpTo, join-digits, join-at}
-use Rattle.laws.proofs.CoreParts.{cut}
+use Rattle.laws.proofs.Joins.{UpTo, join-digits}
+use Rattle.laws.proofs.CoreParts.{uOf, vOf, cut, pairs-of}
 use Rattle.laws.proofs.CoreBlocks.{Cᵢ-block, C′ᵢ-block, Cu-bytes, Cv-at, Cx-block, Cy-block, pair-bytes, uv-bytes}
-
--- two blocks that stand after each other
-second : (l a b : Bytes) → length a ≡ 16 → length b ≡ 16 → take 32 l ≡ a ++ b → (take 16 l ≡ a) × (take 16 (drop 16 l) ≡ b)
-second l a b p q e =
-    let front : take 16 l ≡ a = sym (take-take 16 32 l (omega arith)) ∙ ap (take 16) e ∙ take-at a b 16 p in
-    let both : take 16 l ++ take 16 (drop 16 l) ≡ a ++ b = sym (take-add 16 16 l) ∙ e in
-    (front, sym (drop-at (take 16 l) (take 16 (drop 16 l)) 16 (ap length front ∙ p)) ∙ ap (drop 16) both ∙ drop-at a b 16 p)
 
 module _
     (E : BlockFunction) (E-block : GivesBlocks E)
@@ -44,7 +37,7 @@ module _
   abbrev xy : Bytes
   xy = Cx E Δ x y M ++ Cy E Δ x y M
 
-  pairs-long : Digits 8 (32 * m) (join m pair)
+  pub pairs-long : Digits 8 (32 * m) (join m pair)
   pairs-long = join-digits m pair (pair-bytes E E-block Δ Δ-block x y M long p)
 
   uv-long : Digits 8 d uv
@@ -56,7 +49,7 @@ module _
   y-long : Block (Cy E Δ x y M)
   y-long = Cy-block E E-block Δ Δ-block x y M long p
 
-  split : C ≡ join m pair ++ (uv ++ xy)
+  pub split : C ≡ join m pair ++ (uv ++ xy)
   unfolding core
   split = simp append-assoc
 
@@ -66,21 +59,15 @@ module _
   pub same-length : length C ≡ length M
   same-length = core-bytes .len
 
-  pairs-at : UpTo m (λ i. take 32 (drop (32 * (i - 1)) C) ≡ pair i)
-  pairs-at i a b = ap (λ (l : Bytes). take 32 (drop (32 * (i - 1)) l)) split ∙ join-at m i pair (uv ++ xy) (λ j c d. pair-bytes E E-block Δ Δ-block x y M long p j c d .len) a b
-
-  blocks-at : UpTo m (λ i. (take 16 (drop (32 * (i - 1)) C) ≡ Cᵢ E Δ x y M i) × (take 16 (drop 16 (drop (32 * (i - 1)) C)) ≡ C′ᵢ E Δ x y M i))
-  blocks-at i a b =
-      second (drop (32 * (i - 1)) C) (Cᵢ E Δ x y M i) (C′ᵢ E Δ x y M i)
-      (Cᵢ-block E E-block Δ Δ-block x y M long p i a b .len)
-      (C′ᵢ-block E E-block Δ Δ-block x y M long p i a b .len)
-      (pairs-at i a b)
+  pairs-are : UpTo m (λ i. (Mᵢ C i ≡ Cᵢ E Δ x y M i) × (M′ᵢ C i ≡ C′ᵢ E Δ x y M i))
+  pairs-are =
+      pairs-of m (Cᵢ E Δ x y M) (C′ᵢ E Δ x y M) C (uv ++ xy) (Cᵢ-block E E-block Δ Δ-block x y M long p) (C′ᵢ-block E E-block Δ Δ-block x y M long p) split
 
   pub core-Mᵢ : UpTo m (λ i. Mᵢ C i ≡ Cᵢ E Δ x y M i)
-  core-Mᵢ i a b = blocks-at i a b .0
+  core-Mᵢ i a b = pairs-are i a b .0
 
   pub core-M′ᵢ : UpTo m (λ i. M′ᵢ C i ≡ C′ᵢ E Δ x y M i)
-  core-M′ᵢ i a b = ap (take 16) (sym (drop-drop 16 (32 * (i - 1)) C)) ∙ blocks-at i a b .1
+  core-M′ᵢ i a b = pairs-are i a b .1
 
   -- what follows the pairs, and what follows u and v
   tail : drop (32 * m) C ≡ uv ++ xy
@@ -105,16 +92,23 @@ module _
       ∙ ap (drop 16) ends
       ∙ drop-at (Cx E Δ x y M) (Cy E Δ x y M) 16 (x-long .len)
 
-  pub core-Mu : Mu C ≡ Cu E Δ x y M
-  core-Mu = (λ i. if leb (rest (same-length i)) 15 then core-Muv i else take 16 (core-Muv i)) ∙ go (leb d 15) refl
+  -- u and v of C_u C_v are C_u and C_v
+  pub u-is : uOf d uv ≡ Cu E Δ x y M
+  u-is = go (leb d 15) refl
     where
       go : (b : Bool) → leb d 15 ≡ b → (if b then uv else take 16 uv) ≡ Cu E Δ x y M
       go true e = ap (λ (l : Bytes). Cu E Δ x y M ++ l) (Cv-at E E-block Δ Δ-block x y M long p true e) ∙ append-nil (Cu E Δ x y M)
       go false e = take-at (Cu E Δ x y M) (Cv E Δ x y M) 16 (Cu-bytes E E-block Δ Δ-block x y M long p false e .len)
 
-  pub core-Mv : Mv C ≡ Cv E Δ x y M
-  core-Mv = (λ i. if leb (rest (same-length i)) 15 then [] else drop 16 (core-Muv i)) ∙ go (leb d 15) refl
+  pub v-is : vOf d uv ≡ Cv E Δ x y M
+  v-is = go (leb d 15) refl
     where
       go : (b : Bool) → leb d 15 ≡ b → (if b then [] else drop 16 uv) ≡ Cv E Δ x y M
       go true e = sym (Cv-at E E-block Δ Δ-block x y M long p true e)
       go false e = drop-at (Cu E Δ x y M) (Cv E Δ x y M) 16 (Cu-bytes E E-block Δ Δ-block x y M long p false e .len)
+
+  pub core-Mu : Mu C ≡ Cu E Δ x y M
+  core-Mu = (λ i. uOf (rest (same-length i)) (core-Muv i)) ∙ u-is
+
+  pub core-Mv : Mv C ≡ Cv E Δ x y M
+  core-Mv = (λ i. vOf (rest (same-length i)) (core-Muv i)) ∙ v-is

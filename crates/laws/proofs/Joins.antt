@@ -4,6 +4,7 @@ use mathlib.Core.Path.{_≡_, refl, ap, ap₂, sym, _∙_}
 use Prim.Native.Nat.{ℕ, zero, suc, _+_, _-_, _*_, _≤_}
 use native.Mathlib.Decide.{decLe}
 use native.Mathlib.Nat.{mul-suc}
+use native.Mathlib.Numerals.{add-one}
 use native.Mathlib.Omega.{arith}
 use lib.ListN.{length, take, drop, length-append}
 use lib.Seq.{take-at, drop-at}
@@ -75,6 +76,11 @@ join-at (suc m) i f R h a b = go (decLe i m) (λ c. join-at m i f (f (suc m) ++ 
         ∙ ap (take 32) (drop-at (join m f) (f (suc m) ++ R) (32 * (i - 1)) long)
         ∙ take-at (f (suc m)) R 32 (last m (λ i. length (f i) ≡ 32) h)
         ∙ ap f e
+
+-- a join with its next string
+pub join-more : (i : ℕ) (f : ℕ → Bytes) → join (i + 1) f ≡ join i f ++ f (i + 1)
+unfolding join
+join-more i f = ap (λ (n : ℕ). join n f) (add-one i) ∙ ap (λ (n : ℕ). join i f ++ f n) (sym (add-one i))
 
 -- a sum with its next term, counted as a loop does
 pub sum-more : (j : ℕ) (f : ℕ → Bytes) → 1 ≤ j → sum (j + 1 - 1) f ≡ sum (j - 1) f ⊕ f j

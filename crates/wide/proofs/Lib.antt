@@ -1,9 +1,9 @@
 mod Stores
+mod Steps
+mod Indices
 mod UvParts
 mod Masks
 mod Passes
-mod MaskedParts
-mod Lengths
 mod Parts
 mod CorePairs
 mod CoreUv

@@ -22,11 +22,11 @@ module _ (A B C s : Bytes) (e : s ≡ A ++ (B ++ C)) (a b : ℕ) (la : length A 
   put-second k ys h =
       ap₂ (λ (u v : Bytes). u ++ (ys ++ v)) (ap (take a) e ∙ take-at A (B ++ C) a la) (ap₂ drop h after ∙ drop-at B C b lb)
 
-  pub put-third : (k : ℕ) (zs : Bytes) → length C ≤ k → take (a + b) s ++ (zs ++ drop k (drop (a + b) s)) ≡ (A ++ B) ++ zs
+  pub put-third : (k : ℕ) (zs : Bytes) → length C ≤ k → take (a + b) s ++ (zs ++ drop k (drop (a + b) s)) ≡ A ++ (B ++ zs)
   put-third k zs h =
       let front : take (a + b) s ≡ A ++ B = ap (take (a + b)) (e ∙ sym (append-assoc A B C)) ∙ take-at (A ++ B) C (a + b) (length-append A B ∙ ap₂ _+_ la lb) in
       let none : drop k (drop (a + b) s) ≡ [] = ap (drop k) third ∙ drop-of-length-le C {i = k} h in
-      ap₂ (λ (u v : Bytes). u ++ (zs ++ v)) front none ∙ ap (λ (l : Bytes). (A ++ B) ++ l) (append-nil zs)
+      ap₂ (λ (u v : Bytes). u ++ (zs ++ v)) front none ∙ ap (λ (l : Bytes). (A ++ B) ++ l) (append-nil zs) ∙ append-assoc A B zs
 
 -- a part that came back as long as it was leaves the string as long as it was
 pub put-length : (s ys : Bytes) (a k : ℕ) → a ≤ length s → length ys ≡ length (take k (drop a s)) → length (take a s ++ (ys ++ drop k (drop a s))) ≡ length s

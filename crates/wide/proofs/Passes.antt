@@ -1,24 +1,15 @@
 -- A pass over the pairs of M: F i replaces the i-th pair, and what G i gives for it is summed.
 use mathlib.Core.List.{_++_, append-assoc}
 use mathlib.Core.Path.{_≡_, refl, ap, ap₂, sym, _∙_}
-use Prim.Native.Nat.{ℕ, zero, suc, _+_, _-_, _*_, _≤_, _<_}
+use Prim.Native.Nat.{ℕ, _+_, _-_, _*_, _≤_, _<_}
 use native.Mathlib.Omega.{arith}
 use lib.ListN.{length, take, drop, length-append, length-drop}
 use lib.Seq.{take-at, drop-at, drop-drop}
 use Rattle.paper.specs.Strings.{Bytes, _⊕_, sum, join}
 use Rattle.paper.specs.Section7.{zeros}
 use Rattle.paper.specs.Figure5.{pairs}
-use Rattle.laws.proofs.Joins.{sum-more}
+use Rattle.laws.proofs.Joins.{join-more, sum-more}
 use Rattle.wide.specs.Pairs.{pairAt, pairSum, paired}
-
--- a join with its next string, counted as a loop does
-pub join-more : (j : ℕ) (f : ℕ → Bytes) → 1 ≤ j → join (j + 1 - 1) f ≡ join (j - 1) f ++ f j
-unfolding join
-join-more zero f h = absurd (omega arith)
-join-more (suc j) f h =
-    let next : suc j + 1 - 1 ≡ suc j = omega arith in
-    let this : j ≡ suc j - 1 = omega arith in
-    ap (λ (n : ℕ). join n f) next ∙ ap (λ (n : ℕ). join n f ++ f (suc j)) this
 
 -- the pairs before the b-th are done
 pub record Passed (F G : ℕ → Bytes → Bytes) (M total s : Bytes) (at b : ℕ) : Type 0 where
@@ -46,7 +37,12 @@ module _ (F G : ℕ → Bytes → Bytes) (M : Bytes) where
       let this : take n (drop at s) ≡ pairAt M b = ap₂ take e (back ∙ ap (λ (a : ℕ). drop a M) (p .place)) in
       let last : drop n (drop at s) ≡ drop (at + 32) M = ap₂ drop e back ∙ drop-drop 32 at M in
       let new : ys ≡ F b (pairAt M b) = f ∙ ap (F b) this in
-      let joined : J ++ ys ≡ join (b + 1 - 1) (λ i. F i (pairAt M i)) = ap (λ (l : Bytes). J ++ l) new ∙ sym (join-more b (λ i. F i (pairAt M i)) (p .from1)) in
+      let one : b - 1 + 1 ≡ b = omega (arith, p .from1) in
+      let next : b - 1 + 1 ≡ b + 1 - 1 = omega (arith, p .from1) in
+      let joined : J ++ ys ≡ join (b + 1 - 1) (λ i. F i (pairAt M i)) =
+      ap (λ (l : Bytes). J ++ l) (new ∙ ap (λ (i : ℕ). F i (pairAt M i)) (sym one))
+      ∙ sym (join-more (b - 1) (λ i. F i (pairAt M i)))
+      ∙ ap (λ (i : ℕ). join i (λ j. F j (pairAt M j))) next in
       let all : take at s ++ (ys ++ drop n (drop at s)) ≡ join (b + 1 - 1) (λ i. F i (pairAt M i)) ++ drop (at + 32) M =
       ap₂ (λ (u v : Bytes). u ++ (ys ++ v)) front last ∙ sym (append-assoc J ys (drop (at + 32) M)) ∙ ap (λ (l : Bytes). l ++ drop (at + 32) M) joined in
       let size : length (join (b + 1 - 1) (λ i. F i (pairAt M i))) ≡ at + 32 = sym (ap length joined) ∙ length-append J ys ∙ omega (arith, p .long) in

@@ -5,6 +5,8 @@ use lib.ListN.{length, take, drop}
 use Rattle.paper.specs.Strings.{Bytes, _⊕_, sum, join}
 use Rattle.paper.specs.Figure6.{row, BlockFunction}
 use Rattle.paper.specs.Figure5.{pairs}
+use Rattle.wide.specs.declared.Pass.{Pass}
+use Rattle.wide.specs.declared.Pass.the-variants.{First, Second}
 
 -- 226: W_i and X_i, of M_i and M′_i
 module _ (E : BlockFunction) (i : ℕ) (P : Bytes) where
@@ -33,6 +35,15 @@ module _ (E : BlockFunction) (S : Bytes) (i : ℕ) (P : Bytes) where
 
   abbrev pub secondPair : Bytes
   secondPair = secondC ++ secondC′
+
+-- what one pair adds to the sum of a pass, and what becomes of it
+abbrev pub summand : BlockFunction → Pass → Bytes → ℕ → Bytes → Bytes
+summand E First S = firstX E
+summand E Second S = secondY E S
+
+abbrev pub newPair : BlockFunction → Pass → Bytes → ℕ → Bytes → Bytes
+newPair E First S = firstPair E
+newPair E Second S = secondPair E S
 
 -- the i-th pair of a string, counted from 1
 abbrev pub pairAt : Bytes → ℕ → Bytes

@@ -1,15 +1,16 @@
 // AEZ-core, in place: enciphering and deciphering a string of 32 bytes or more where it stands.
 // Lines 220 to 240 of Figure 5 of the AEZ paper; deciphering exchanges (0, 1) with (0, 2) and (-1, 1) with (-1, 2).
+ghost use mathlib.Core.Bool.{true, false};
 ghost use mathlib.Core.List.{_++_};
 ghost use mathlib.Core.Path.{_≡_};
 ghost use Prim.Native.Nat.{_-_, _/_, _<_, _≤_};
 ghost use lib.ListN.{length};
 ghost use Rattle.paper.specs.Strings.{_⊕_};
 ghost use Rattle.paper.specs.Section7.{twoTo};
-ghost use Rattle.paper.specs.Figure6.{E};
+ghost use Rattle.paper.specs.Figure6.{row, E};
 ghost use Rattle.paper.specs.Figure5.{core};
-ghost use Rattle.tbc.specs.Meaning.{blocks};
-ghost use Rattle.wide.specs.Pairs.{firstX, firstPair, secondY, secondPair, pairSum, paired};
+ghost use Rattle.tbc.specs.Meaning.{blocks, pair, rowOf, Plain};
+ghost use Rattle.wide.specs.Pairs.{firstX, firstPair, secondY, secondPair, summand, newPair, pairSum, paired};
 ghost use Rattle.wide.specs.Ways.{firstOf, secondOf};
 ghost use Rattle.wide.specs.Ends.{sxOf, syOf, cxOf, cyOf};
 ghost use Rattle.wide.specs.Uv.{withUv, uMasked, vMasked};
@@ -20,30 +21,84 @@ pub enum Way {
     Decipher,
 }
 
-// x of lines 220 to 240.
-fn first_index(way: Way) -> u32
-    ensures { λ r. ⌜ (r ≡ firstOf way) × (r ≤ 7) ⌝ }
+// (0, x) of line 230.
+fn x_pair(way: Way) -> tbc::Pair
+    ensures { λ r. ⌜ r ≡ pair false 0 (firstOf way) ⌝ }
 {
     match way {
-        Way::Encipher => 1,
-        Way::Decipher => 2,
+        Way::Encipher => tbc::Pair::X,
+        Way::Decipher => tbc::Pair::Y,
     }
 }
 
-// y of lines 220 to 240.
-fn second_index(way: Way) -> u32
-    ensures { λ r. ⌜ (r ≡ secondOf way) × (r ≤ 7) ⌝ }
+// (-1, x) of line 230.
+fn xx_pair(way: Way) -> tbc::Pair
+    ensures { λ r. ⌜ r ≡ pair true 1 (firstOf way) ⌝ }
 {
     match way {
-        Way::Encipher => 2,
-        Way::Decipher => 1,
+        Way::Encipher => tbc::Pair::XX,
+        Way::Decipher => tbc::Pair::YY,
     }
+}
+
+// (0, y) of line 239.
+fn y_pair(way: Way) -> tbc::Pair
+    ensures { λ r. ⌜ r ≡ pair false 0 (secondOf way) ⌝ }
+{
+    match way {
+        Way::Encipher => tbc::Pair::Y,
+        Way::Decipher => tbc::Pair::X,
+    }
+}
+
+// (-1, y) of line 239.
+fn yy_pair(way: Way) -> tbc::Pair
+    ensures { λ r. ⌜ r ≡ pair true 1 (secondOf way) ⌝ }
+{
+    match way {
+        Way::Encipher => tbc::Pair::YY,
+        Way::Decipher => tbc::Pair::XX,
+    }
+}
+
+// The two passes over the pairs of blocks: line 226, and lines 232 and 233.
+enum Pass {
+    First,
+    Second,
 }
 
 // S_x and S_y.
 struct Sums {
     sx: [u8; 16],
     sy: [u8; 16],
+}
+
+// a ⊕ E(x) at the pair p.
+fn added(k: tbc::Key, p: tbc::Pair, a: [u8; 16], x: [u8; 16]) -> [u8; 16]
+    requires { ⌜ Plain (rowOf p) (p .2) ⌝ }
+    ensures { λ r. ⌜ r ≡ a ⊕ E (blocks k) (rowOf p) (p .2) x ⌝ }
+{
+    let e = tbc::e(k, p, x);
+    block::xor(a, e)
+}
+
+// a ⊕ E(x) at the pair (1, b). power is the power of L for b.
+fn added_at(k: tbc::Key, b: u32, power: [u8; 16], a: [u8; 16], x: [u8; 16]) -> [u8; 16]
+    requires { ⌜ (1 ≤ b) × (power ≡ twoTo ((b - 1) / 8) (k .l)) ⌝ }
+    ensures { λ r. ⌜ r ≡ a ⊕ E (blocks k) (row 1) b x ⌝ }
+{
+    let p = tbc::Pair::A_I.at(b);
+    let e = tbc::e_running(k, p, power, x);
+    block::xor(a, e)
+}
+
+// Two blocks put into a part of 32 bytes.
+fn put_two(part: &mut [u8], a: [u8; 16], b: [u8; 16])
+    requires { ⌜ length (now part) ≡ 32 ⌝ }
+    ensures { λ _. ⌜ now (part .exit) ≡ a ++ b ⌝ }
+{
+    block::store(part, 0, a);
+    block::store(part, 16, b);
 }
 
 // Line 226: a pair M_i M′_i becomes W_i X_i, and X_i is returned. power is the power of L for the number b of the pair.
@@ -53,13 +108,9 @@ fn first_pair(k: tbc::Key, b: u32, power: [u8; 16], part: &mut [u8]) -> [u8; 16]
 {
     let left = block::load(part, 0);
     let right = block::load(part, 16);
-    let p = tbc::Pair::A_I.at(b);
-    let e = tbc::e_running(k, p, power, right);
-    let w = block::xor(left, e);
-    let f = tbc::e(k, tbc::Pair::A, w);
-    let x = block::xor(right, f);
-    block::store(part, 0, w);
-    block::store(part, 16, x);
+    let w = added_at(k, b, power, left, right);
+    let x = added(k, tbc::Pair::A, right, w);
+    put_two(part, w, x);
     x
 }
 
@@ -68,48 +119,41 @@ fn second_pair(k: tbc::Key, b: u32, power: [u8; 16], sum: [u8; 16], part: &mut [
     requires { ⌜ (1 ≤ b) × (length (now part) ≡ 32) × (power ≡ twoTo ((b - 1) / 8) (k .l)) ⌝ }
     ensures { λ r. ⌜ (r ≡ secondY (E (blocks k)) sum b (now (part .entry))) × (now (part .exit) ≡ secondPair (E (blocks k)) sum b (now (part .entry))) ⌝ }
 {
-    let left = block::load(part, 0);
-    let right = block::load(part, 16);
     let p = tbc::Pair::AA_I.at(b);
     let s = tbc::e_running(k, p, power, sum);
+    let left = block::load(part, 0);
+    let right = block::load(part, 16);
     let y = block::xor(left, s);
     let z = block::xor(right, s);
-    let e = tbc::e(k, tbc::Pair::A, z);
-    let second = block::xor(y, e);
-    let q = tbc::Pair::A_I.at(b);
-    let f = tbc::e_running(k, q, power, second);
-    let first = block::xor(z, f);
-    block::store(part, 0, first);
-    block::store(part, 16, second);
+    let second = added(k, tbc::Pair::A, y, z);
+    let first = added_at(k, b, power, z, second);
+    put_two(part, first, second);
     y
 }
 
-// Line 226 for every pair: M_1 M′_1 .. M_m M′_m becomes W_1 X_1 .. W_m X_m, the rest stays, and the sum of the X_i is returned.
-fn first_pass(k: tbc::Key, s: &mut [u8]) -> [u8; 16]
-    requires { ⌜ (32 ≤ length (now s)) × (length (now s) ≤ 65536) ⌝ }
-    ensures { λ r. ⌜ (r ≡ pairSum (firstX (E (blocks k))) (now (s .entry))) × (now (s .exit) ≡ paired (firstPair (E (blocks k))) (now (s .entry))) ⌝ }
+// One pair of a pass; what it adds to the pass's sum is returned. sum is S, which the second pass reads.
+fn one_pair(
+    k: tbc::Key,
+    b: u32,
+    power: [u8; 16],
+    pass: Pass,
+    sum: [u8; 16],
+    part: &mut [u8],
+) -> [u8; 16]
+    requires { ⌜ (1 ≤ b) × (length (now part) ≡ 32) × (power ≡ twoTo ((b - 1) / 8) (k .l)) ⌝ }
+    ensures { λ r. ⌜ (r ≡ summand (E (blocks k)) pass sum b (now (part .entry))) × (now (part .exit) ≡ newPair (E (blocks k)) pass sum b (now (part .entry))) ⌝ }
 {
-    let mut total = [0u8; 16];
-    let mut power = k.l;
-    let mut at: usize = 0;
-    let mut b: u32 = 1;
-    while 64 <= s.len() - at {
-        let end = at + 32;
-        let x = first_pair(k, b, power, &mut s[at..end]);
-        let more = block::xor(total, x);
-        total = more;
-        let next = tbc::next_power(b, power);
-        power = next;
-        at = end;
-        b += 1;
+    match pass {
+        Pass::First => first_pair(k, b, power, part),
+        Pass::Second => second_pair(k, b, power, sum, part),
     }
-    total
 }
 
-// Lines 232 and 233 for every pair: W_1 X_1 .. W_m X_m becomes C_1 C′_1 .. C_m C′_m, the rest stays, and the sum of the Y_i is returned.
-fn second_pass(k: tbc::Key, sum: [u8; 16], s: &mut [u8]) -> [u8; 16]
+// A pass over every pair: the first makes W_1 X_1 .. W_m X_m of M_1 M′_1 .. M_m M′_m and returns the sum of the X_i, the second makes
+// C_1 C′_1 .. C_m C′_m of that, by the sum S, and returns the sum of the Y_i. The rest stays.
+fn all_pairs(k: tbc::Key, pass: Pass, sum: [u8; 16], s: &mut [u8]) -> [u8; 16]
     requires { ⌜ (32 ≤ length (now s)) × (length (now s) ≤ 65536) ⌝ }
-    ensures { λ r. ⌜ (r ≡ pairSum (secondY (E (blocks k)) sum) (now (s .entry))) × (now (s .exit) ≡ paired (secondPair (E (blocks k)) sum) (now (s .entry))) ⌝ }
+    ensures { λ r. ⌜ (r ≡ pairSum (summand (E (blocks k)) pass sum) (now (s .entry))) × (now (s .exit) ≡ paired (newPair (E (blocks k)) pass sum) (now (s .entry))) ⌝ }
 {
     let mut total = [0u8; 16];
     let mut power = k.l;
@@ -117,8 +161,8 @@ fn second_pass(k: tbc::Key, sum: [u8; 16], s: &mut [u8]) -> [u8; 16]
     let mut b: u32 = 1;
     while 64 <= s.len() - at {
         let end = at + 32;
-        let y = second_pair(k, b, power, sum, &mut s[at..end]);
-        let more = block::xor(total, y);
+        let x = one_pair(k, b, power, pass, sum, &mut s[at..end]);
+        let more = block::xor(total, x);
         total = more;
         let next = tbc::next_power(b, power);
         power = next;
@@ -139,15 +183,12 @@ fn with_uv(k: tbc::Key, total: [u8; 16], uv: &[u8]) -> [u8; 16]
     }
     if d <= 15 {
         let short = block::pad(uv);
-        let e = tbc::e(k, tbc::Pair::U, short);
-        return block::xor(total, e);
+        return added(k, tbc::Pair::U, total, short);
     }
     let u = block::load(uv, 0);
-    let e = tbc::e(k, tbc::Pair::U, u);
-    let more = block::xor(total, e);
+    let more = added(k, tbc::Pair::U, total, u);
     let v = block::pad(&uv[16..d]);
-    let f = tbc::e(k, tbc::Pair::V, v);
-    block::xor(more, f)
+    added(k, tbc::Pair::V, more, v)
 }
 
 // A part of at most 16 bytes, xored with the front of e.
@@ -182,40 +223,35 @@ fn mask_uv(k: tbc::Key, sum: [u8; 16], uv: &mut [u8])
 }
 
 // Line 230: S_x and S_y, of the last two blocks and the sum X.
-fn middle(k: tbc::Key, delta: [u8; 16], x: u32, total: [u8; 16], last: &[u8]) -> Sums
-    requires { ⌜ (x ≤ 7) × (length (now last) ≡ 32) ⌝ }
-    ensures { λ r. ⌜ (r .sx ≡ sxOf (E (blocks k)) delta x total (now (last .entry))) × (r .sy ≡ syOf (E (blocks k)) delta x total (now (last .entry))) ⌝ }
+fn middle(k: tbc::Key, delta: [u8; 16], way: Way, total: [u8; 16], last: &[u8]) -> Sums
+    requires { ⌜ length (now last) ≡ 32 ⌝ }
+    ensures { λ r. ⌜ (r .sx ≡ sxOf (E (blocks k)) delta (firstOf way) total (now (last .entry))) × (r .sy ≡ syOf (E (blocks k)) delta (firstOf way) total (now (last .entry))) ⌝ }
 {
     let mx = block::load(last, 0);
     let my = block::load(last, 16);
-    let p = tbc::Pair::X.at(x);
-    let e = tbc::e(k, p, my);
     let a = block::xor(mx, delta);
     let b = block::xor(a, total);
-    let sx = block::xor(b, e);
-    let q = tbc::Pair::XX.at(x);
-    let f = tbc::e(k, q, sx);
-    let sy = block::xor(my, f);
+    let p = x_pair(way);
+    let sx = added(k, p, b, my);
+    let q = xx_pair(way);
+    let sy = added(k, q, my, sx);
     Sums { sx, sy }
 }
 
 // Line 239: C_x C_y put in place of the last two blocks, by S_x, S_y and the sum Y.
-fn put_last(k: tbc::Key, delta: [u8; 16], y: u32, total: [u8; 16], sums: Sums, last: &mut [u8])
-    requires { ⌜ (y ≤ 7) × (length (now last) ≡ 32) ⌝ }
-    ensures { λ _. ⌜ now (last .exit) ≡ cxOf (E (blocks k)) delta y total (sums .sx) (sums .sy) ++ cyOf (E (blocks k)) delta y total (sums .sx) (sums .sy) ⌝ }
+fn put_last(k: tbc::Key, delta: [u8; 16], way: Way, total: [u8; 16], sums: Sums, last: &mut [u8])
+    requires { ⌜ length (now last) ≡ 32 ⌝ }
+    ensures { λ _. ⌜ now (last .exit) ≡ cxOf (E (blocks k)) delta (secondOf way) total (sums .sx) (sums .sy) ++ cyOf (E (blocks k)) delta (secondOf way) total (sums .sx) (sums .sy) ⌝ }
 {
     let sx = sums.sx;
     let sy = sums.sy;
-    let p = tbc::Pair::XX.at(y);
-    let e = tbc::e(k, p, sy);
-    let cy = block::xor(sx, e);
-    let q = tbc::Pair::X.at(y);
-    let f = tbc::e(k, q, cy);
+    let p = yy_pair(way);
+    let cy = added(k, p, sx, sy);
     let a = block::xor(sy, delta);
     let b = block::xor(a, total);
-    let cx = block::xor(b, f);
-    block::store(last, 0, cx);
-    block::store(last, 16, cy);
+    let q = y_pair(way);
+    let cx = added(k, q, b, cy);
+    put_two(last, cx, cy);
 }
 
 // Lines 220 to 240, in place: s becomes AEZ-core of it.
@@ -224,18 +260,16 @@ pub fn core_in_place(k: tbc::Key, delta: [u8; 16], way: Way, s: &mut [u8])
     ensures { λ _. ⌜ now (s .exit) ≡ core (E (blocks k)) delta (firstOf way) (secondOf way) (now (s .entry)) ⌝ }
 {
     let n = s.len();
-    let x = first_index(way);
-    let y = second_index(way);
     let at = 32 * (n / 32 - 1);
     let last = at + n % 32;
-    let first = first_pass(k, s);
+    let first = all_pairs(k, Pass::First, [0u8; 16], s);
     let total = with_uv(k, first, &s[at..last]);
-    let sums = middle(k, delta, x, total, &s[last..n]);
+    let sums = middle(k, delta, way, total, &s[last..n]);
     let sx = sums.sx;
     let sy = sums.sy;
     let sum = block::xor(sx, sy);
     mask_uv(k, sum, &mut s[at..last]);
-    let second = second_pass(k, sum, s);
+    let second = all_pairs(k, Pass::Second, sum, s);
     let all = with_uv(k, second, &s[at..last]);
-    put_last(k, delta, y, all, sums, &mut s[last..n]);
+    put_last(k, delta, way, all, sums, &mut s[last..n]);
 }

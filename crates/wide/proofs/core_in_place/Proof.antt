@@ -1,25 +1,80 @@
 -- `wide::core_in_place` meets its contract.
-use mathlib.Core.List.{List, _++_}
-use mathlib.Core.Path.{_≡_, refl, ap₂, _∙_}
-use Prim.Native.Nat.{ℕ, _+_, _-_, _*_, _≤_}
+use mathlib.Core.List.{List}
+use mathlib.Core.Path.{_≡_, refl, _∙_}
+use Prim.Native.Nat.{ℕ, _+_, _-_, _*_}
 use native.Mathlib.Omega.{arith}
 use borrow.Author.Needs.{needs}
-use lib.ListN.{length, take, drop, length-take, length-drop}
+use lib.ListN.{length, length-take, length-drop}
+use Rattle.paper.specs.Strings.{Digits, Block}
 use Rattle.paper.specs.Figure6.{E}
-use Rattle.paper.specs.Figure5.{pairs, rest, core}
+use Rattle.paper.specs.Figure5.{pairs, rest}
+use Rattle.laws.proofs.Digits.{below-of}
+use Rattle.laws.proofs.KeyBlocks.{E-block}
 use Rattle.laws.proofs.CoreParts.{cut}
+use Rattle.block.proofs.Arrays.{array-bytes}
 use Rattle.tbc.specs.Meaning.{blocks}
-use Rattle.wide.proofs.Lengths.{row-0-long, row-1-long}
+use Rattle.tbc.proofs.Keys.{key-bytes}
+use Rattle.wide.specs.Ways.{firstOf, secondOf}
 use Rattle.wide.proofs.Parts.{put-length}
 use Rattle.wide.proofs.CoreWhole.{together}
 use Rattle.wide.proofs.core_in_place.Statement.{statement}
 use Rattle.wide.proofs.core_in_place.Tie as tie
 
-first-index-requires : tie.Need-first-index-requires
-first-index-requires c κs = search needs
+-- from the place after each call to the place after the call before it
+abbrev begun : tie.After-all-pairs → tie.After-slice-known
+begun c = c .before .before
 
-second-index-requires : tie.Need-second-index-requires
-second-index-requires c κs = search needs
+abbrev first : tie.After-with-uv → tie.After-all-pairs
+first c = c .before .before .before .before .before
+
+abbrev total : tie.After-middle → tie.After-with-uv
+total c = c .before .before .before
+
+abbrev ends : tie.After-xor → tie.After-middle
+ends c = c .before .before .before
+
+abbrev summed : tie.After-mask-uv → tie.After-xor
+summed c = c .before .before
+
+abbrev masked : tie.After-all-pairs2 → tie.After-mask-uv
+masked c = c .before .before .before .before
+
+abbrev second : tie.After-with-uv2 → tie.After-all-pairs2
+second c = c .before .before .before .before .before
+
+abbrev all : tie.After-put-last → tie.After-with-uv2
+all c = c .before .before
+
+-- the first pass and the start, from the masks on
+abbrev passed : tie.After-mask-uv → tie.After-all-pairs
+passed c = first (total (ends (summed c)))
+
+abbrev start : tie.After-mask-uv → tie.Start
+start c = begun (passed c) .before
+
+-- the string, and where M_uv and M_x begin
+abbrev M : tie.Start → List ℕ
+M c = c .args .s .now
+
+abbrev at : tie.Start → ℕ
+at c = 32 * pairs (length (M c))
+
+abbrev end : tie.Start → ℕ
+end c = at c + rest (length (M c))
+
+whole : (c : tie.Start) → end c + 32 ≡ length (M c)
+whole c = cut (length (M c)) (c .pre .0)
+
+-- the second pass leaves the string as long as it was
+second-long : (c : tie.After-all-pairs2) → length (c .all-pairs2 .last .1 .1 .1 .0) ≡ length (M (start (masked c)))
+second-long c =
+    let m : tie.After-mask-uv = masked c in
+    let s : tie.Start = start m in
+    let p : tie.After-all-pairs = passed m in
+    let first-long : length (p .all-pairs .last .1 .1 .1 .0) ≡ length (M s) = p .all-pairs .kept .1 .1 .1 .0 in
+    c .all-pairs2 .kept .1 .1 .1 .0
+    ∙ put-length (p .all-pairs .last .1 .1 .1 .0) (m .mask-uv .last .1 .1 .0) (at s) (end s - at s) (omega (arith, whole s)) (m .mask-uv .kept .1 .1 .0)
+    ∙ first-long
 
 sub-at : tie.Need-sub-at
 sub-at c = search needs
@@ -30,8 +85,8 @@ mul-at c = search needs
 add-last : tie.Need-add-last
 add-last c = search needs
 
-first-pass-requires : tie.Need-first-pass-requires
-first-pass-requires c κs = search needs
+all-pairs-requires : tie.Need-all-pairs-requires
+all-pairs-requires c κs = search needs
 
 sub-with-uv : tie.Need-sub-with-uv
 sub-with-uv c = search needs
@@ -72,8 +127,8 @@ part-mask-uv-end c = search needs
 mask-uv-requires : tie.Need-mask-uv-requires
 mask-uv-requires c κs = search needs
 
-second-pass-requires : tie.Need-second-pass-requires
-second-pass-requires c κs = search needs
+all-pairs-requires-2 : tie.Need-all-pairs-requires-2
+all-pairs-requires-2 c κs = search needs
 
 sub-with-uv-2 : tie.Need-sub-with-uv-2
 sub-with-uv-2 c = search needs
@@ -98,67 +153,52 @@ part-put-last-end c = search needs
 
 put-last-requires : tie.Need-put-last-requires
 put-last-requires c κs =
-    let M : List ℕ = c .before .before .before .before .before .before .before .before .before .before .before .before .before .before .before .before .before .before .before .before .before .before .before .before .before .before .before .before .args .s .now in
-    let s : List ℕ = c .before .before .before .before .before .before .before .before .before .before .before .before .before .before .before .before .before .before .before .before .before .before .before .first-pass .last .1 .0 in
-    let at : ℕ = 32 * pairs (length M) in
-    let k : ℕ = at + rest (length M) - at in
-    let first : length s ≡ length M = c .before .before .before .before .before .before .before .before .before .before .before .before .before .before .before .before .before .before .before .before .before .before .before .first-pass .kept .1 .0 in
-    let masked = put-length s (c .before .before .before .before .before .before .before .before .before .before .mask-uv .last .1 .1 .0) at k (omega (arith, cut (length M) (c .before .before .before .before .before .before .before .before .before .before .before .before .before .before .before .before .before .before .before .before .before .before .before .before .before .before .before .before .pre .0))) (c .before .before .before .before .before .before .before .before .before .before .mask-uv .kept .1 .1 .0) in
-    let second : length (c .before .before .before .before .before .before .second-pass .last .1 .1 .0) ≡ length M = c .before .before .before .before .before .before .second-pass .kept .1 .1 .0 ∙ masked ∙ first in
-    (c .before .before .before .before .before .before .before .before .before .before .before .before .before .before .before .before .before .before .before .before .before .before .before .before .before .second-index .ensures .1, simp (length-take, length-drop) (omega (arith, cut (length M) (c .before .before .before .before .before .before .before .before .before .before .before .before .before .before .before .before .before .before .before .before .before .before .before .before .before .before .before .before .pre .0))))
+    let p : tie.After-all-pairs2 = second (c .before) in
+    simp (length-take, length-drop) (omega (arith, second-long p, whole (start (masked p))))
 
 same-length : tie.Need-same-length
 same-length c =
-    let M : List ℕ = c .before .before .before .before .before .before .before .before .before .before .before .before .before .before .before .before .before .before .before .before .before .before .before .before .before .before .before .before .before .before .before .args .s .now in
-    let s : List ℕ = c .before .before .before .before .before .before .before .before .before .before .before .before .before .before .before .before .before .before .before .before .before .before .before .before .before .before .first-pass .last .1 .0 in
-    let at : ℕ = 32 * pairs (length M) in
-    let end : ℕ = at + rest (length M) in
-    let first : length s ≡ length M = c .before .before .before .before .before .before .before .before .before .before .before .before .before .before .before .before .before .before .before .before .before .before .before .before .before .before .first-pass .kept .1 .0 in
-    let masked = put-length s (c .before .before .before .before .before .before .before .before .before .before .before .before .before .mask-uv .last .1 .1 .0) at (end - at) (omega (arith, cut (length M) (c .before .before .before .before .before .before .before .before .before .before .before .before .before .before .before .before .before .before .before .before .before .before .before .before .before .before .before .before .before .before .before .pre .0))) (c .before .before .before .before .before .before .before .before .before .before .before .before .before .mask-uv .kept .1 .1 .0) in
-    let second : length (c .before .before .before .before .before .before .before .before .before .second-pass .last .1 .1 .0) ≡ length M = c .before .before .before .before .before .before .before .before .before .second-pass .kept .1 .1 .0 ∙ masked ∙ first in
-    put-length (c .before .before .before .before .before .before .before .before .before .second-pass .last .1 .1 .0) (c .before .before .put-last .last .1 .1 .1 .1 .1 .0) end (length M - end) (omega (arith, cut (length M) (c .before .before .before .before .before .before .before .before .before .before .before .before .before .before .before .before .before .before .before .before .before .before .before .before .before .before .before .before .before .before .before .pre .0))) (c .before .before .put-last .kept .1 .1 .1 .1 .1 .0) ∙ second
+    let last : tie.After-put-last = c .before .before in
+    let p : tie.After-all-pairs2 = second (all last) in
+    let s : tie.Start = start (masked p) in
+    let long : length (p .all-pairs2 .last .1 .1 .1 .0) ≡ length (M s) = second-long p in
+    put-length (p .all-pairs2 .last .1 .1 .1 .0) (last .put-last .last .1 .1 .1 .1 .1 .0) (end s) (length (M s) - end s) (omega (arith, whole s)) (last .put-last .kept .1 .1 .1 .1 .1 .0)
+    ∙ long
 
 returns : tie.Need-returns
 returns c =
-    let a = c .before .before .before .before .before .before .before .before .before .before .before .before .before .before .before .before .before .before .before .before .before .before .before .before .before .before .before .before .before .before .before .args in
+    let last : tie.After-put-last = c .before .before in
+    let y : tie.After-with-uv2 = all last in
+    let p2 : tie.After-all-pairs2 = second y in
+    let m : tie.After-mask-uv = masked p2 in
+    let S : tie.After-xor = summed m in
+    let e : tie.After-middle = ends S in
+    let x : tie.After-with-uv = total e in
+    let p1 : tie.After-all-pairs = first x in
+    let s : tie.Start = start m in
+    let a = s .args in
     let K = blocks (a .k) in
-    let M : List ℕ = a .s .now in
-    let at : ℕ = 32 * pairs (length M) in
-    let end : ℕ = at + rest (length M) in
-    let k : ℕ = end - at in
-    let n : ℕ = length M - end in
-    let long : 32 ≤ length M = c .before .before .before .before .before .before .before .before .before .before .before .before .before .before .before .before .before .before .before .before .before .before .before .before .before .before .before .before .before .before .before .pre .0 in
-    let is-k : k ≡ rest (length M) = omega arith in
-    let is-n : n ≡ 32 = omega (arith, cut (length M) long) in
-    let x = c .before .before .before .before .before .before .before .before .before .before .before .before .before .before .before .before .before .before .before .before .before .before .before .before .before .before .before .before .before .first-index in
-    let y = c .before .before .before .before .before .before .before .before .before .before .before .before .before .before .before .before .before .before .before .before .before .before .before .before .before .before .before .before .second-index in
-    let first = c .before .before .before .before .before .before .before .before .before .before .before .before .before .before .before .before .before .before .before .before .before .before .before .before .before .before .first-pass in
-    let total = c .before .before .before .before .before .before .before .before .before .before .before .before .before .before .before .before .before .before .before .before .before .with-uv in
-    let sums = c .before .before .before .before .before .before .before .before .before .before .before .before .before .before .before .before .before .before .middle in
-    let both = c .before .before .before .before .before .before .before .before .before .before .before .before .before .before .before .xor in
-    let mask = c .before .before .before .before .before .before .before .before .before .before .before .before .before .mask-uv in
-    let second = c .before .before .before .before .before .before .before .before .before .second-pass in
-    let all = c .before .before .before .before .with-uv2 in
-    let last = c .before .before .put-last in
-    let s : List ℕ = first .last .1 .0 in
-    let w : List ℕ = mask .last .1 .1 .0 in
-    together (E K) (row-0-long K) (row-1-long K) (a .delta) (x .result) (y .result) M long k n is-k is-n
-    (first .result) s (total .result) (sums .result .sx) (sums .result .sy) (both .result) w (take at s ++ (w ++ drop k (drop at s)))
-    (second .result) (second .last .1 .1 .0) (all .result) (last .last .1 .1 .1 .1 .1 .0)
-    (first .ensures .0) (first .ensures .1) (total .ensures) (sums .ensures .0) (sums .ensures .1) (both .ensures)
-    (mask .ensures) (mask .kept .1 .1 .0) refl (second .ensures .0) (second .ensures .1) (second .kept .1 .1 .0) (all .ensures) (last .ensures)
-    ∙ ap₂ (λ (i j : ℕ). core (E K) (a .delta) i j M) (x .ensures .0) (y .ensures .0)
+    let key = E-block (key-bytes (a .k) _ (s .good .0)) in
+    let block : Block (a .delta) = array-bytes 16 _ _ (s .good .1 .0) in
+    let bytes : Digits 8 (length (M s)) (M s) = record { len = refl; low = below-of 256 (M s) (λ i h. omega (arith, begun p1 .slice-known .given i)) } in
+    let k : ℕ = end s - at s in
+    let n : ℕ = length (M s) - end s in
+    let is-k : k ≡ rest (length (M s)) = omega arith in
+    let is-n : n ≡ 32 = omega (arith, whole s) in
+    together (E K) key (a .delta) block (firstOf (a .way)) (secondOf (a .way)) (M s) (s .pre .0) bytes k n is-k is-n
+    (p1 .all-pairs .result) (p1 .all-pairs .last .1 .1 .1 .0) (x .with-uv .result) (e .middle .result .sx) (e .middle .result .sy) (S .xor .result)
+    (m .mask-uv .last .1 .1 .0) (p2 .all-pairs2 .result) (p2 .all-pairs2 .last .1 .1 .1 .0) (y .with-uv2 .result) (last .put-last .last .1 .1 .1 .1 .1 .0)
+    (p1 .all-pairs .ensures .0) (p1 .all-pairs .ensures .1) (x .with-uv .ensures) (e .middle .ensures .0) (e .middle .ensures .1) (S .xor .ensures)
+    (m .mask-uv .ensures) (p2 .all-pairs2 .ensures .0) (p2 .all-pairs2 .ensures .1) (y .with-uv2 .ensures) (last .put-last .ensures)
 
 pub core-in-place-spec : {M : Type 1} → statement M
 core-in-place-spec =
     tie.close
     (tie.spec
-    first-index-requires
-    second-index-requires
     sub-at
     mul-at
     add-last
-    first-pass-requires
+    all-pairs-requires
     sub-with-uv
     part-with-uv-start
     part-with-uv-end
@@ -172,7 +212,7 @@ core-in-place-spec =
     part-mask-uv-start
     part-mask-uv-end
     mask-uv-requires
-    second-pass-requires
+    all-pairs-requires-2
     sub-with-uv-2
     part-with-uv-start-2
     part-with-uv-end-2

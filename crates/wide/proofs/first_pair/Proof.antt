@@ -1,16 +1,9 @@
 -- `wide::first_pair` meets its contract.
-use mathlib.Core.Bool.{false}
-use mathlib.Core.List.{_++_}
-use mathlib.Core.Path.{_≡_, ap, ap₂, _∙_}
-use native.Mathlib.Omega.{arith}
+use mathlib.Core.Path.{_∙_}
 use borrow.Author.Needs.{needs}
-use lib.ListN.{length}
-use Rattle.paper.specs.Strings.{Bytes, _⊕_}
-use Rattle.paper.specs.Figure6.{row, E}
+use Rattle.paper.specs.Figure6.{E}
 use Rattle.tbc.specs.Meaning.{blocks}
-use Rattle.wide.specs.Pairs.{firstW, firstX}
-use Rattle.tbc.proofs.Pairs.{at-pair, running}
-use Rattle.wide.proofs.Stores.{stored}
+use Rattle.wide.proofs.Steps.{first-made}
 use Rattle.wide.proofs.first_pair.Statement.{statement}
 use Rattle.wide.proofs.first_pair.Tie as tie
 
@@ -20,58 +13,30 @@ load-requires c κs = search needs
 load-requires-2 : tie.Need-load-requires-2
 load-requires-2 c κs = search needs
 
-at-requires : tie.Need-at-requires
-at-requires c κs = search needs
+added-at-requires : tie.Need-added-at-requires
+added-at-requires c κs = search needs
 
-e-running-requires : tie.Need-e-running-requires
-e-running-requires c κs =
-    let s = c .before .before .before .before .before .before in
-    running (c .at .result) 1 (s .args .b) (c .at .ensures) (s .args .k) (s .args .power) (omega arith) (s .pre .0) (s .pre .2)
+added-requires : tie.Need-added-requires
+added-requires c κs = search needs
 
-xor-requires : tie.Need-xor-requires
-xor-requires c κs = search needs
-
-e-requires : tie.Need-e-requires
-e-requires c κs = search needs
-
-xor-requires-2 : tie.Need-xor-requires-2
-xor-requires-2 c κs = search needs
-
-store-requires : tie.Need-store-requires
-store-requires c κs = search needs
-
-store-requires-2 : tie.Need-store-requires-2
-store-requires-2 c κs = search needs
+put-two-requires : tie.Need-put-two-requires
+put-two-requires c κs = search needs
 
 same-length : tie.Need-same-length
 same-length c = search needs
 
 returns : tie.Need-returns
-unfolding firstW firstX
 returns c =
-    let s = c .before .before .before .before .before .before .before .before .before .before .before .before .before .before .before .before .before .before in
-    let f = E (blocks (s .args .k)) in
-    let P : Bytes = s .args .part .now in
-    let right = c .before .before .before .before .before .before .before .before .before .before .before .before .before .load2 .ensures in
-    let W : c .before .before .before .before .before .before .before .before .before .before .xor .result ≡ firstW f (s .args .b) P =
-    c .before .before .before .before .before .before .before .before .before .before .xor .ensures ∙ ap₂ _⊕_ (c .before .before .before .before .before .before .before .before .before .before .before .before .before .before .before .load .ensures) (c .before .before .before .before .before .before .before .before .before .before .before .e-running .ensures ∙ at-pair _ false 1 (s .args .b) (c .before .before .before .before .before .before .before .before .before .before .before .before .at .ensures) (blocks (s .args .k)) _ ∙ ap (f (row 1) (s .args .b)) right) in
-    let X : c .before .before .before .before .before .before .before .before .xor2 .result ≡ firstX f (s .args .b) P =
-    c .before .before .before .before .before .before .before .before .xor2 .ensures ∙ ap₂ _⊕_ right (c .before .before .before .before .before .before .before .before .before .e .ensures ∙ ap (f (row 0) 0) W) in
-    let long : length (c .before .before .before .before .before .before .before .before .before .before .xor .result) ≡ 16 = search needs in
-    (X, stored P (c .before .before .before .before .before .before .before .before .before .before .xor .result) (c .before .before .before .before .before .before .before .before .xor2 .result) (c .before .before .before .before .before .before .store .last .0) (c .before .before .store2 .last .0) (s .pre .1) long (c .before .before .before .before .before .before .store .ensures) (c .before .before .store2 .ensures) ∙ ap₂ _++_ W X)
+    let put : tie.After-put-two = c .before .before in
+    let x : tie.After-added = put .before .before in
+    let w : tie.After-added-at = x .before in
+    let right : tie.After-load2 = w .before in
+    let left : tie.After-load = right .before .before in
+    let a = left .before .before .before .args in
+    let made = first-made (E (blocks (a .k))) (a .b) (a .part .now) (left .load .result) (right .load2 .result) (left .load .ensures) (right .load2 .ensures) (w .added-at .result) (x .added .result) (w .added-at .ensures) (x .added .ensures) in
+    (made .0, put .put-two .ensures ∙ made .1)
 
 pub first-pair-spec : {M : Type 1} → statement M
 first-pair-spec =
     tie.close
-    (tie.spec
-    load-requires
-    load-requires-2
-    at-requires
-    e-running-requires
-    xor-requires
-    e-requires
-    xor-requires-2
-    store-requires
-    store-requires-2
-    same-length
-    returns)
+    (tie.spec load-requires load-requires-2 added-at-requires added-requires put-two-requires same-length returns)

@@ -1,23 +1,24 @@
 -- `wide::mask_uv` meets its contract.
-use mathlib.Core.List.{List, _++_}
-use mathlib.Core.Path.{_≡_, refl, ap, sym, _∙_}
+use mathlib.Core.List.{List}
+use mathlib.Core.Path.{_≡_, refl, _∙_}
 use Prim.Native.Nat.{ℕ, _-_}
 use native.Mathlib.Omega.{arith}
 use borrow.Author.Needs.{needs}
-use lib.ListN.{length, take, drop}
+use lib.ListN.{length}
 use lib.Seq.{length-take-le}
-use Rattle.paper.specs.Strings.{Bytes, _⊕_}
 use Rattle.paper.specs.Figure6.{E}
 use Rattle.tbc.specs.Meaning.{blocks}
-use Rattle.wide.proofs.UvParts.{no-bytes, masked-none, masked-short, masked-both}
-use Rattle.wide.proofs.MaskedParts.{both-masked}
+use Rattle.wide.proofs.UvParts.{masked-none, masked-short, masked-both}
 use Rattle.wide.proofs.mask_uv.Statement.{statement}
 use Rattle.wide.proofs.mask_uv.Tie as tie
+
+abbrev start : tie.After-e → tie.Start
+start c = c .before .before .before
 
 returns : tie.Need-returns
 returns c =
     let a = c .before .before .args in
-    no-bytes (a .uv .now) (c .if1 .taken) ∙ sym (masked-none (E (blocks (a .k))) (a .sum) (a .uv .now) (c .if1 .taken))
+    masked-none (E (blocks (a .k))) (a .sum) (a .uv .now) (c .if1 .taken)
 
 e-requires : tie.Need-e-requires
 e-requires c κs = search needs
@@ -30,8 +31,11 @@ same-length c = search needs
 
 returns-2 : tie.Need-returns-2
 returns-2 c =
-    let a = c .before .before .before .before .before .before .before .before .args in
-    c .before .before .mask .ensures ∙ ap (λ (l : Bytes). a .uv .now ⊕ l) (c .before .before .before .before .before .e .ensures) ∙ sym (masked-short (E (blocks (a .k))) (a .sum) (a .uv .now) (c .before .before .before .before .before .before .if1 .left) (c .before .before .before .before .if2 .taken))
+    let mask : tie.After-mask = c .before .before in
+    let short : tie.Then2 = mask .before .before in
+    let e : tie.After-e = short .before in
+    let a = start e .args in
+    masked-short (E (blocks (a .k))) (a .sum) (a .uv .now) (e .before .if1 .left) (short .if2 .taken) (e .e .result) (mask .mask .last .0) (e .e .ensures) (mask .mask .ensures)
 
 e-requires-2 : tie.Need-e-requires-2
 e-requires-2 c κs = search needs
@@ -65,13 +69,14 @@ same-length-2 c = search needs
 
 returns-3 : tie.Need-returns-3
 returns-3 c =
-    let a = c .before .before .before .before .before .before .before .before .before .before .before .before .before .args in
+    let v : tie.After-mask3 = c .before .before in
+    let u : tie.After-mask2 = v .before .before .before .before in
+    let f : tie.After-e2 = u .before .before in
+    let e : tie.After-e = f .before .before in
+    let a = start e .args in
     let t : List ℕ = a .uv .now in
-    let u : length (c .before .before .before .before .before .before .mask2 .last .0) ≡ 16 = c .before .before .before .before .before .before .mask2 .kept .0 ∙ length-take-le 16 t (omega arith) in
-    both-masked t _ _ (c .before .before .before .before .before .before .mask2 .last .0) (c .before .before .mask3 .last .0) (length t) (length t - 16) refl refl u
-    (c .before .before .before .before .before .before .mask2 .ensures ∙ ap (λ (l : Bytes). take 16 t ⊕ l) (c .before .before .before .before .before .before .before .before .before .before .e .ensures))
-    (c .before .before .mask3 .ensures ∙ ap (λ (l : Bytes). take (length t - 16) (drop 16 (c .before .before .before .before .before .before .mask2 .last .0 ++ drop 16 t)) ⊕ l) (c .before .before .before .before .before .before .before .before .e2 .ensures))
-    ∙ sym (masked-both (E (blocks (a .k))) (a .sum) t (c .before .before .before .before .before .before .before .before .before .if2 .left))
+    let long : length (u .mask2 .last .0) ≡ 16 = u .mask2 .kept .0 ∙ length-take-le 16 t (omega arith) in
+    masked-both (E (blocks (a .k))) (a .sum) t (f .before .if2 .left) (length t - 16) (e .e .result) (f .e2 .result) (u .mask2 .last .0) (v .mask3 .last .0) refl (e .e .ensures) (f .e2 .ensures) long (u .mask2 .ensures) (v .mask3 .ensures)
 
 pub mask-uv-spec : {M : Type 1} → statement M
 mask-uv-spec =
