@@ -1,6 +1,5 @@
 // AEZ-core, in place: enciphering and deciphering a string of 32 bytes or more where it stands.
 // Lines 220 to 240 of Figure 5 of the AEZ paper; deciphering exchanges (0, 1) with (0, 2) and (-1, 1) with (-1, 2).
-ghost use mathlib.Core.Bool.{true, false};
 ghost use mathlib.Core.List.{_++_};
 ghost use mathlib.Core.Path.{_≡_};
 ghost use Prim.Native.Nat.{_-_, _/_, _<_, _≤_};
@@ -9,9 +8,9 @@ ghost use Rattle.paper.specs.Strings.{_⊕_};
 ghost use Rattle.paper.specs.Section7.{twoTo};
 ghost use Rattle.paper.specs.Figure6.{row, E};
 ghost use Rattle.paper.specs.Figure5.{core};
-ghost use Rattle.tbc.specs.Meaning.{blocks, pair, rowOf, Plain};
+ghost use Rattle.tbc.specs.Meaning.{blocks, rowOf, Plain};
 ghost use Rattle.wide.specs.Pairs.{firstX, firstPair, secondY, secondPair, summand, newPair, pairSum, paired};
-ghost use Rattle.wide.specs.Ways.{firstOf, secondOf};
+ghost use Rattle.wide.specs.Ways.{firstOf, secondOf, endPairs};
 ghost use Rattle.wide.specs.Ends.{sxOf, syOf, cxOf, cyOf};
 ghost use Rattle.wide.specs.Uv.{withUv, uMasked, vMasked};
 
@@ -21,43 +20,30 @@ pub enum Way {
     Decipher,
 }
 
-// (0, x) of line 230.
-fn x_pair(way: Way) -> tbc::Pair
-    ensures { λ r. ⌜ r ≡ pair false 0 (firstOf way) ⌝ }
-{
-    match way {
-        Way::Encipher => tbc::Pair::X,
-        Way::Decipher => tbc::Pair::Y,
-    }
+// (0, x), (-1, x), (0, y) and (-1, y) of lines 230 and 239.
+struct EndPairs {
+    x: tbc::Pair,
+    xx: tbc::Pair,
+    y: tbc::Pair,
+    yy: tbc::Pair,
 }
 
-// (-1, x) of line 230.
-fn xx_pair(way: Way) -> tbc::Pair
-    ensures { λ r. ⌜ r ≡ pair true 1 (firstOf way) ⌝ }
+fn pairs_of(way: Way) -> EndPairs
+    ensures { λ r. ⌜ r ≡ endPairs way ⌝ }
 {
     match way {
-        Way::Encipher => tbc::Pair::XX,
-        Way::Decipher => tbc::Pair::YY,
-    }
-}
-
-// (0, y) of line 239.
-fn y_pair(way: Way) -> tbc::Pair
-    ensures { λ r. ⌜ r ≡ pair false 0 (secondOf way) ⌝ }
-{
-    match way {
-        Way::Encipher => tbc::Pair::Y,
-        Way::Decipher => tbc::Pair::X,
-    }
-}
-
-// (-1, y) of line 239.
-fn yy_pair(way: Way) -> tbc::Pair
-    ensures { λ r. ⌜ r ≡ pair true 1 (secondOf way) ⌝ }
-{
-    match way {
-        Way::Encipher => tbc::Pair::YY,
-        Way::Decipher => tbc::Pair::XX,
+        Way::Encipher => EndPairs {
+            x: tbc::Pair::X,
+            xx: tbc::Pair::XX,
+            y: tbc::Pair::Y,
+            yy: tbc::Pair::YY,
+        },
+        Way::Decipher => EndPairs {
+            x: tbc::Pair::Y,
+            xx: tbc::Pair::YY,
+            y: tbc::Pair::X,
+            yy: tbc::Pair::XX,
+        },
     }
 }
 
@@ -229,12 +215,11 @@ fn middle(k: tbc::Key, delta: [u8; 16], way: Way, total: [u8; 16], last: &[u8]) 
 {
     let mx = block::load(last, 0);
     let my = block::load(last, 16);
+    let i = pairs_of(way);
     let a = block::xor(mx, delta);
     let b = block::xor(a, total);
-    let p = x_pair(way);
-    let sx = added(k, p, b, my);
-    let q = xx_pair(way);
-    let sy = added(k, q, my, sx);
+    let sx = added(k, i.x, b, my);
+    let sy = added(k, i.xx, my, sx);
     Sums { sx, sy }
 }
 
@@ -245,12 +230,11 @@ fn put_last(k: tbc::Key, delta: [u8; 16], way: Way, total: [u8; 16], sums: Sums,
 {
     let sx = sums.sx;
     let sy = sums.sy;
-    let p = yy_pair(way);
-    let cy = added(k, p, sx, sy);
+    let i = pairs_of(way);
+    let cy = added(k, i.yy, sx, sy);
     let a = block::xor(sy, delta);
     let b = block::xor(a, total);
-    let q = y_pair(way);
-    let cx = added(k, q, b, cy);
+    let cx = added(k, i.y, b, cy);
     put_two(last, cx, cy);
 }
 

@@ -1,8 +1,8 @@
--- `wide::x_pair` meets its contract: in each arm both sides are one pair.
+-- `wide::pairs_of` meets its contract: in each arm both sides are the same four pairs.
 use mathlib.Core.Path.{refl}
 use borrow.Author.Needs.{needs}
-use Rattle.wide.proofs.x_pair.Statement.{statement}
-use Rattle.wide.proofs.x_pair.Tie as tie
+use Rattle.wide.proofs.pairs_of.Statement.{statement}
+use Rattle.wide.proofs.pairs_of.Tie as tie
 
 enum-told : tie.Need-enum-told
 enum-told c = search needs
@@ -16,5 +16,5 @@ returns c = rw (c .enum-told .given .1) refl
 returns-2 : tie.Need-returns-2
 returns-2 c = rw (c .enum-told2 .given .1) refl
 
-pub x-pair-spec : {M : Type 1} → statement M
-x-pair-spec = tie.close (tie.spec enum-told enum-told-2 returns returns-2)
+pub pairs-of-spec : {M : Type 1} → statement M
+pairs-of-spec = tie.close (tie.spec enum-told enum-told-2 returns returns-2)
