@@ -12,7 +12,7 @@ use Rattle.laws.proofs.AesBlocks.{sbox-byte, xtime-byte}
 use Rattle.laws.proofs.Digits.{below-getD}
 use Rattle.laws.proofs.Tables.{tab-entries}
 use Rattle.laws.proofs.Round.{xtime-mask, mix-columns}
-use Rattle.aes.specs.Columns.{row0, row1, row2, row3, column, columnAt, turned, doubled, mixed, shifted, bytesOf}
+use Rattle.aes.specs.Columns.{row0, row1, row2, row3, column, columnAt, turnedUp, doubled, mixedColumn, shiftedColumn, stateBytes}
 
 -- four bytes
 record Four (a b c d : ℕ) : Type 0 where
@@ -42,7 +42,7 @@ xor-four a b c d a' b' c' d' p q = record {
   byte3 = xor-lt 8 d d' (p .byte3) (q .byte3);
 }
 
-turn : (a b c d : ℕ) → Four a b c d → turned (column a b c d) ≡ column b c d a
+turn : (a b c d : ℕ) → Four a b c d → turnedUp (column a b c d) ≡ column b c d a
 turn a b c d p = omega arith
 
 up : (a b c d : ℕ) → column (a % 128) (b % 128) (c % 128) (d % 128) * 2 % 4294967296
@@ -70,8 +70,8 @@ module _ (a b c d : ℕ) (p : Four a b c d) where
       by-bytes bitAnd and-block a b c d 128 128 128 128 p (record { byte0 = omega arith; byte1 = omega arith; byte2 = omega arith; byte3 = omega arith })
       ∙ (λ i. column (and-high a 1 7 i) (and-high b 1 7 i) (and-high c 1 7 i) (and-high d 1 7 i))
 
-  double : doubled (column a b c d) ≡ column (xtime a) (xtime b) (xtime c) (xtime d)
-  double =
+  double-column : doubled (column a b c d) ≡ column (xtime a) (xtime b) (xtime c) (xtime d)
+  double-column =
       ap₂ (λ (u v : ℕ). bitXor (u * 2 % 4294967296) (v / 128 * 27)) low-bits top-bits
       ∙ ap₂ bitXor (up a b c d) (lost (a / 128 % 2) (b / 128 % 2) (c / 128 % 2) (d / 128 % 2))
       ∙ by-bytes bitXor xor-block (a % 128 * 2) (b % 128 * 2) (c % 128 * 2) (d % 128 * 2)
@@ -90,11 +90,11 @@ module _ (a b c d : ℕ) (p : Four a b c d) where
   below = record { byte0 = p .byte1; byte1 = p .byte2; byte2 = p .byte3; byte3 = p .byte0 }
 
   -- each byte and the one below it
-  pairs : bitXor (column a b c d) (turned (column a b c d)) ≡ column (bitXor a b) (bitXor b c) (bitXor c d) (bitXor d a)
+  pairs : bitXor (column a b c d) (turnedUp (column a b c d)) ≡ column (bitXor a b) (bitXor b c) (bitXor c d) (bitXor d a)
   pairs = ap (bitXor (column a b c d)) (turn a b c d p) ∙ by-bytes bitXor xor-block a b c d b c d a p below
 
-  two-below : turned (bitXor (column a b c d) (turned (column a b c d))) ≡ column (bitXor b c) (bitXor c d) (bitXor d a) (bitXor a b)
-  two-below = ap turned pairs ∙ turn (bitXor a b) (bitXor b c) (bitXor c d) (bitXor d a) (xor-four a b c d b c d a p below)
+  two-below : turnedUp (bitXor (column a b c d) (turnedUp (column a b c d))) ≡ column (bitXor b c) (bitXor c d) (bitXor d a) (bitXor a b)
+  two-below = ap turnedUp pairs ∙ turn (bitXor a b) (bitXor b c) (bitXor c d) (bitXor d a) (xor-four a b c d b c d a p below)
 
   below-pairs : Four (bitXor b c) (bitXor c d) (bitXor d a) (bitXor a b)
   below-pairs = xor-four b c d a c d a b below (record { byte0 = p .byte2; byte1 = p .byte3; byte2 = p .byte0; byte3 = p .byte1 })
@@ -108,24 +108,24 @@ module _ (a b c d : ℕ) (p : Four a b c d) where
       below-pairs
 
   -- 3 of each byte and the two below it
-  others : bitXor (bitXor (doubled (column a b c d)) (column a b c d)) (turned (bitXor (column a b c d) (turned (column a b c d))))
+  others : bitXor (bitXor (doubled (column a b c d)) (column a b c d)) (turnedUp (bitXor (column a b c d) (turnedUp (column a b c d))))
       ≡ column (bitXor (bitXor (xtime a) a) (bitXor b c)) (bitXor (bitXor (xtime b) b) (bitXor c d))
       (bitXor (bitXor (xtime c) c) (bitXor d a)) (bitXor (bitXor (xtime d) d) (bitXor a b))
   others =
       ap₂ bitXor
-      (ap (λ (n : ℕ). bitXor n (column a b c d)) (double a b c d p) ∙ by-bytes bitXor xor-block (xtime a) (xtime b) (xtime c) (xtime d) a b c d doubles p)
+      (ap (λ (n : ℕ). bitXor n (column a b c d)) (double-column a b c d p) ∙ by-bytes bitXor xor-block (xtime a) (xtime b) (xtime c) (xtime d) a b c d doubles p)
       two-below
       ∙ by-bytes bitXor xor-block (bitXor (xtime a) a) (bitXor (xtime b) b) (bitXor (xtime c) c) (bitXor (xtime d) d)
       (bitXor b c) (bitXor c d) (bitXor d a) (bitXor a b)
       (xor-four (xtime a) (xtime b) (xtime c) (xtime d) a b c d doubles p)
       below-pairs
 
-  mix : mixed (column a b c d)
+  mix : mixedColumn (column a b c d)
       ≡ column (bitXor (xtime a) (bitXor (bitXor (xtime b) b) (bitXor c d))) (bitXor (xtime b) (bitXor (bitXor (xtime c) c) (bitXor d a)))
       (bitXor (xtime c) (bitXor (bitXor (xtime d) d) (bitXor a b))) (bitXor (xtime d) (bitXor (bitXor (xtime a) a) (bitXor b c)))
-  unfolding mixed
+  unfolding mixedColumn
   mix =
-      ap₂ bitXor (double a b c d p) (ap turned others ∙ turn _ _ _ _ others-four)
+      ap₂ bitXor (double-column a b c d p) (ap turnedUp others ∙ turn _ _ _ _ others-four)
       ∙ by-bytes bitXor xor-block (xtime a) (xtime b) (xtime c) (xtime d)
       (bitXor (bitXor (xtime b) b) (bitXor c d)) (bitXor (bitXor (xtime c) c) (bitXor d a))
       (bitXor (bitXor (xtime d) d) (bitXor a b)) (bitXor (bitXor (xtime a) a) (bitXor b c))
@@ -171,7 +171,7 @@ module _ (v w : ℕ) where
 
 -- the sum of two states
 pub added : (a b c d a' b' c' d' : ℕ)
-    → bytesOf (bitXor a a' ∷ bitXor b b' ∷ bitXor c c' ∷ bitXor d d' ∷ []) ≡ bytesOf (a ∷ b ∷ c ∷ d ∷ []) ⊕ bytesOf (a' ∷ b' ∷ c' ∷ d' ∷ [])
+    → stateBytes (bitXor a a' ∷ bitXor b b' ∷ bitXor c c' ∷ bitXor d d' ∷ []) ≡ stateBytes (a ∷ b ∷ c ∷ d ∷ []) ⊕ stateBytes (a' ∷ b' ∷ c' ∷ d' ∷ [])
 unfolding _⊕_ zip
 added a b c d a' b' c' d' =
     λ i.
@@ -183,7 +183,7 @@ added a b c d a' b' c' d' =
 
 -- the columns of 16 bytes
 pub columns : (x : Bytes) → Block x
-    → bytesOf (columnAt x 0 ∷ columnAt x 4 ∷ columnAt x 8 ∷ columnAt x 12 ∷ []) ≡ x
+    → stateBytes (columnAt x 0 ∷ columnAt x 4 ∷ columnAt x 8 ∷ columnAt x 12 ∷ []) ≡ x
 columns x p =
     (λ i.
     r0 0 i ∷ r1 0 i ∷ r2 0 i ∷ r3 0 i
@@ -228,25 +228,25 @@ module _ (a b c d : ℕ) where
   subs : Four s0 s1 s2 s3
   subs = record { byte0 = sbox-byte (row0 a); byte1 = sbox-byte (row1 b); byte2 = sbox-byte (row2 c); byte3 = sbox-byte (row3 d) }
 
-  mixed-row0 : row0 (mixed (shifted a b c d)) ≡ bitXor (xtime s0) (bitXor (bitXor (xtime s1) s1) (bitXor s2 s3))
-  unfolding shifted
+  mixed-row0 : row0 (mixedColumn (shiftedColumn a b c d)) ≡ bitXor (xtime s0) (bitXor (bitXor (xtime s1) s1) (bitXor s2 s3))
+  unfolding shiftedColumn
   mixed-row0 = column-row0 _ _ _ _ _ (mix s0 s1 s2 s3 subs) (mix-four s0 s1 s2 s3 subs)
 
-  mixed-row1 : row1 (mixed (shifted a b c d)) ≡ bitXor (xtime s1) (bitXor (bitXor (xtime s2) s2) (bitXor s3 s0))
-  unfolding shifted
+  mixed-row1 : row1 (mixedColumn (shiftedColumn a b c d)) ≡ bitXor (xtime s1) (bitXor (bitXor (xtime s2) s2) (bitXor s3 s0))
+  unfolding shiftedColumn
   mixed-row1 = column-row1 _ _ _ _ _ (mix s0 s1 s2 s3 subs) (mix-four s0 s1 s2 s3 subs)
 
-  mixed-row2 : row2 (mixed (shifted a b c d)) ≡ bitXor (xtime s2) (bitXor (bitXor (xtime s3) s3) (bitXor s0 s1))
-  unfolding shifted
+  mixed-row2 : row2 (mixedColumn (shiftedColumn a b c d)) ≡ bitXor (xtime s2) (bitXor (bitXor (xtime s3) s3) (bitXor s0 s1))
+  unfolding shiftedColumn
   mixed-row2 = column-row2 _ _ _ _ _ (mix s0 s1 s2 s3 subs) (mix-four s0 s1 s2 s3 subs)
 
-  mixed-row3 : row3 (mixed (shifted a b c d)) ≡ bitXor (xtime s3) (bitXor (bitXor (xtime s0) s0) (bitXor s1 s2))
-  unfolding shifted
+  mixed-row3 : row3 (mixedColumn (shiftedColumn a b c d)) ≡ bitXor (xtime s3) (bitXor (bitXor (xtime s0) s0) (bitXor s1 s2))
+  unfolding shiftedColumn
   mixed-row3 = column-row3 _ _ _ _ _ (mix s0 s1 s2 s3 subs) (mix-four s0 s1 s2 s3 subs)
 
 -- the four columns that a round makes, before the key
 pub mixed-all : (a b c d : ℕ)
-    → bytesOf (mixed (shifted a b c d) ∷ mixed (shifted b c d a) ∷ mixed (shifted c d a b) ∷ mixed (shifted d a b c) ∷ []) ≡ MixColumns (ShiftRows (SubBytes (bytesOf (a ∷ b ∷ c ∷ d ∷ []))))
+    → stateBytes (mixedColumn (shiftedColumn a b c d) ∷ mixedColumn (shiftedColumn b c d a) ∷ mixedColumn (shiftedColumn c d a b) ∷ mixedColumn (shiftedColumn d a b c) ∷ []) ≡ MixColumns (ShiftRows (SubBytes (stateBytes (a ∷ b ∷ c ∷ d ∷ []))))
 unfolding SubBytes ShiftRows _⊕_ zip
 mixed-all a b c d =
     (λ i.
@@ -255,4 +255,4 @@ mixed-all a b c d =
     ∷ mixed-row0 c d a b i ∷ mixed-row1 c d a b i ∷ mixed-row2 c d a b i ∷ mixed-row3 c d a b i
     ∷ mixed-row0 d a b c i ∷ mixed-row1 d a b c i ∷ mixed-row2 d a b c i ∷ mixed-row3 d a b c i
     ∷ [])
-    ∙ mix-columns (ShiftRows (SubBytes (bytesOf (a ∷ b ∷ c ∷ d ∷ [])))) refl
+    ∙ mix-columns (ShiftRows (SubBytes (stateBytes (a ∷ b ∷ c ∷ d ∷ [])))) refl

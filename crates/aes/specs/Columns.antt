@@ -27,25 +27,25 @@ column a b c d = ((a * 256 + b) * 256 + c) * 256 + d
 abbrev pub columnAt : Bytes → ℕ → ℕ
 columnAt x n = column (getD x n 0) (getD x (n + 1) 0) (getD x (n + 2) 0) (getD x (n + 3) 0)
 
--- a column turned up by one row
-abbrev pub turned : ℕ → ℕ
-turned w = w % 16777216 * 256 + w / 16777216
+-- a column turnedUp up by one row
+abbrev pub turnedUp : ℕ → ℕ
+turnedUp w = w % 16777216 * 256 + w / 16777216
 
 -- each byte by 2: the seven low bits of each moved up, and 1b where the bit that is lost was 1
 abbrev pub doubled : ℕ → ℕ
 doubled w = bitXor (bitAnd w 2139062143 * 2 % 4294967296) (bitAnd w 2155905152 / 128 * 27)
 
--- 2 of a byte and, turned up, 3 of the byte and the two below it
-unfoldable pub mixed : ℕ → ℕ
-mixed w = bitXor (doubled w) (turned (bitXor (bitXor (doubled w) w) (turned (bitXor w (turned w)))))
+-- 2 of a byte and, turnedUp up, 3 of the byte and the two below it
+unfoldable pub mixedColumn : ℕ → ℕ
+mixedColumn w = bitXor (doubled w) (turnedUp (bitXor (bitXor (doubled w) w) (turnedUp (bitXor w (turnedUp w)))))
 
 -- SubBytes and ShiftRows: the column of row 0 of a, row 1 of b, row 2 of c and row 3 of d
-unfoldable pub shifted : ℕ → ℕ → ℕ → ℕ → ℕ
-shifted a b c d = column (sbox (row0 a)) (sbox (row1 b)) (sbox (row2 c)) (sbox (row3 d))
+unfoldable pub shiftedColumn : ℕ → ℕ → ℕ → ℕ → ℕ
+shiftedColumn a b c d = column (sbox (row0 a)) (sbox (row1 b)) (sbox (row2 c)) (sbox (row3 d))
 
 -- the 16 bytes of four columns
-abbrev pub bytesOf : List ℕ → Bytes
-bytesOf s =
+abbrev pub stateBytes : List ℕ → Bytes
+stateBytes s =
     let a = getD s 0 0 in
     let b = getD s 1 0 in
     let c = getD s 2 0 in

@@ -6,7 +6,7 @@ ghost use lib.ListN.{length};
 ghost use Rattle.paper.specs.Strings.{tab, _⊕_};
 ghost use Rattle.paper.specs.Fips197.{sbox};
 ghost use Rattle.paper.specs.Section7.{aesenc, AES, AES4, AES10};
-ghost use Rattle.aes.specs.Columns.{row0, row1, row2, row3, column, columnAt, turned, doubled, mixed, shifted, bytesOf};
+ghost use Rattle.aes.specs.Columns.{row0, row1, row2, row3, column, columnAt, turnedUp, doubled, mixedColumn, shiftedColumn, stateBytes};
 
 mod sbox;
 
@@ -49,7 +49,7 @@ fn row3(w: u32) -> u8
     (w % 256) as u8
 }
 
-fn wide(x: u8) -> u32
+fn as_number(x: u8) -> u32
     ensures { λ r. ⌜ (r ≡ x) × (r < 256) ⌝ }
 {
     x as u32
@@ -59,12 +59,12 @@ fn wide(x: u8) -> u32
 fn column(a: u8, b: u8, c: u8, d: u8) -> u32
     ensures { λ r. ⌜ r ≡ column a b c d ⌝ }
 {
-    wide(a) * 16777216 + wide(b) * 65536 + wide(c) * 256 + wide(d)
+    as_number(a) * 16777216 + as_number(b) * 65536 + as_number(c) * 256 + as_number(d)
 }
 
 // A column turned up by one row.
-fn turned(w: u32) -> u32
-    ensures { λ r. ⌜ r ≡ turned w ⌝ }
+fn turned_up(w: u32) -> u32
+    ensures { λ r. ⌜ r ≡ turnedUp w ⌝ }
 {
     w % 16777216 * 256 + w / 16777216
 }
@@ -77,18 +77,18 @@ fn doubled(w: u32) -> u32
 }
 
 // MixColumns of a column: a byte is 2 of itself, 3 of the one below it, and the two below that.
-fn mixed(w: u32) -> u32
-    ensures { λ r. ⌜ r ≡ mixed w ⌝ }
+fn mixed_column(w: u32) -> u32
+    ensures { λ r. ⌜ r ≡ mixedColumn w ⌝ }
 {
     let d = doubled(w);
-    let two_below = turned(w ^ turned(w));
-    d ^ turned(d ^ w ^ two_below)
+    let two_below = turned_up(w ^ turned_up(w));
+    d ^ turned_up(d ^ w ^ two_below)
 }
 
 // SubBytes and ShiftRows for one column: a row of each of four.
-fn shifted(t: &[u8; 256], a: u32, b: u32, c: u32, d: u32) -> u32
+fn shifted_column(t: &[u8; 256], a: u32, b: u32, c: u32, d: u32) -> u32
     requires { ⌜ now t ≡ tab 256 sbox ⌝ }
-    ensures { λ r. ⌜ r ≡ shifted a b c d ⌝ }
+    ensures { λ r. ⌜ r ≡ shiftedColumn a b c d ⌝ }
 {
     let r0 = row0(a);
     let r1 = row1(b);
@@ -103,7 +103,7 @@ fn shifted(t: &[u8; 256], a: u32, b: u32, c: u32, d: u32) -> u32
 
 // The sum of two states.
 fn add(a: [u32; 4], b: [u32; 4]) -> [u32; 4]
-    ensures { λ r. ⌜ bytesOf r ≡ bytesOf a ⊕ bytesOf b ⌝ }
+    ensures { λ r. ⌜ stateBytes r ≡ stateBytes a ⊕ stateBytes b ⌝ }
 {
     [a[0] ^ b[0], a[1] ^ b[1], a[2] ^ b[2], a[3] ^ b[3]]
 }
@@ -111,20 +111,20 @@ fn add(a: [u32; 4], b: [u32; 4]) -> [u32; 4]
 // One round: SubBytes, ShiftRows, MixColumns, and the key added.
 fn aesenc(t: &[u8; 256], s: [u32; 4], k: [u32; 4]) -> [u32; 4]
     requires { ⌜ now t ≡ tab 256 sbox ⌝ }
-    ensures { λ r. ⌜ bytesOf r ≡ aesenc (bytesOf s) (bytesOf k) ⌝ }
+    ensures { λ r. ⌜ stateBytes r ≡ aesenc (stateBytes s) (stateBytes k) ⌝ }
 {
     let a = s[0];
     let b = s[1];
     let c = s[2];
     let d = s[3];
-    let s0 = shifted(t, a, b, c, d);
-    let s1 = shifted(t, b, c, d, a);
-    let s2 = shifted(t, c, d, a, b);
-    let s3 = shifted(t, d, a, b, c);
-    let m0 = mixed(s0);
-    let m1 = mixed(s1);
-    let m2 = mixed(s2);
-    let m3 = mixed(s3);
+    let s0 = shifted_column(t, a, b, c, d);
+    let s1 = shifted_column(t, b, c, d, a);
+    let s2 = shifted_column(t, c, d, a, b);
+    let s3 = shifted_column(t, d, a, b, c);
+    let m0 = mixed_column(s0);
+    let m1 = mixed_column(s1);
+    let m2 = mixed_column(s2);
+    let m3 = mixed_column(s3);
     add([m0, m1, m2, m3], k)
 }
 
@@ -138,7 +138,7 @@ fn column_at(x: [u8; 16], n: usize) -> u32
 
 // The state of a block.
 fn columns(x: [u8; 16]) -> [u32; 4]
-    ensures { λ r. ⌜ bytesOf r ≡ x ⌝ }
+    ensures { λ r. ⌜ stateBytes r ≡ x ⌝ }
 {
     let a = column_at(x, 0);
     let b = column_at(x, 4);
@@ -148,8 +148,8 @@ fn columns(x: [u8; 16]) -> [u32; 4]
 }
 
 // The block of a state.
-fn bytes(s: [u32; 4]) -> [u8; 16]
-    ensures { λ r. ⌜ r ≡ bytesOf s ⌝ }
+fn state_bytes(s: [u32; 4]) -> [u8; 16]
+    ensures { λ r. ⌜ r ≡ stateBytes s ⌝ }
 {
     let a = s[0];
     let b = s[1];
@@ -194,7 +194,7 @@ fn rounds(k: &[[u8; 16]], x: [u8; 16]) -> [u8; 16]
         s = y;
         i += 1;
     }
-    bytes(s)
+    state_bytes(s)
 }
 
 // AES4 under five keys.

@@ -21,9 +21,9 @@ use Rattle.laws.proofs.BitStrings.{digits-first, digits-last, bits-mod,
 -- ---- a shift by one bit, on bytes
 
 -- each byte moved up by one bit, and below it the first bit of the next byte
-shifted : Bytes → Bytes
-shifted [] = []
-shifted (b ∷ X) = bitXor (b * 2 % 256) (getD X 0 0 / 128) ∷ shifted X
+leftShifted : Bytes → Bytes
+leftShifted [] = []
+leftShifted (b ∷ X) = bitXor (b * 2 % 256) (getD X 0 0 / 128) ∷ leftShifted X
 
 -- a byte moved up, with the bit t below it
 moved : (b t : ℕ) → t < 2 → bitXor (b * 2 % 256) t ≡ b % 128 * 2 + t
@@ -45,45 +45,45 @@ top-lt : (X : Bytes) → Below 256 X → getD X 0 0 / 128 < 2
 top-lt X p = omega (arith, below-getD 256 0 X (zero-lt-suc 255) p)
 
 -- the first bit of X, then the bits of X shifted, are the bits of X and a 0
-shift-bits : (X : Bytes) → Below 256 X → getD X 0 0 / 128 ∷ bits (shifted X) ≡ bits X ++ 0 ∷ []
-unfolding bits shifted
+shift-bits : (X : Bytes) → Below 256 X → getD X 0 0 / 128 ∷ bits (leftShifted X) ≡ bits X ++ 0 ∷ []
+unfolding bits leftShifted
 shift-bits [] p = refl
 shift-bits (b ∷ X) p =
     let t : ℕ = getD X 0 0 / 128 in
     let top : b / 128 ≡ b / 128 % 2 = sym (mod-eq-of-lt (top-lt (b ∷ X) p)) in
-    let after : t ∷ bits (shifted X) ≡ bits X ++ 0 ∷ [] = shift-bits X (p .1) in
-    ap (λ (l : List ℕ). b / 128 ∷ (l ++ bits (shifted X))) (moved-bits b t (top-lt X (p .1)))
-    ∙ ap (λ (l : List ℕ). b / 128 ∷ l) (append-assoc (digits 2 7 b) (t ∷ []) (bits (shifted X)))
+    let after : t ∷ bits (leftShifted X) ≡ bits X ++ 0 ∷ [] = shift-bits X (p .1) in
+    ap (λ (l : List ℕ). b / 128 ∷ (l ++ bits (leftShifted X))) (moved-bits b t (top-lt X (p .1)))
+    ∙ ap (λ (l : List ℕ). b / 128 ∷ l) (append-assoc (digits 2 7 b) (t ∷ []) (bits (leftShifted X)))
     ∙ ap₂ (λ (h : ℕ) (l : List ℕ). h ∷ (digits 2 7 b ++ l)) top after
     ∙ ap (λ (l : List ℕ). b / 128 % 2 ∷ l) (sym (append-assoc (digits 2 7 b) (bits X) (0 ∷ [])))
     ∙ ap (λ (l : List ℕ). (l ++ bits X) ++ 0 ∷ []) (sym (digits-first 2 7 b))
 
-below-shifted : (X : Bytes) → Below 256 X → Below 256 (shifted X)
-unfolding shifted
-below-shifted [] p = tt
-below-shifted (b ∷ X) p = (
+leftShifted-below : (X : Bytes) → Below 256 X → Below 256 (leftShifted X)
+unfolding leftShifted
+leftShifted-below [] p = tt
+leftShifted-below (b ∷ X) p = (
   xor-lt 8 (b * 2 % 256) (getD X 0 0 / 128) (mod-lt (b * 2) (zero-lt-suc 255)) (omega (arith, top-lt X (p .1))),
-  below-shifted X (p .1),
+  leftShifted-below X (p .1),
 )
 
-length-shifted : (X : Bytes) → length (shifted X) ≡ length X
-unfolding shifted
-length-shifted [] = refl
-length-shifted (b ∷ X) = ap suc (length-shifted X)
+leftShifted-length : (X : Bytes) → length (leftShifted X) ≡ length X
+unfolding leftShifted
+leftShifted-length [] = refl
+leftShifted-length (b ∷ X) = ap suc (leftShifted-length X)
 
 module _ (X : Bytes) (p : Block X) where
   some-bits : 1 ≤ length (bits X)
   some-bits = omega (arith, length-bits X, p .len)
 
-  shift-left : bytes (shiftLeft (bits X)) ≡ shifted X
+  shift-left : bytes (shiftLeft (bits X)) ≡ leftShifted X
   unfolding shiftLeft
   shift-left =
       ap bytes (sym (drop-append-le 1 (bits X) (0 ∷ []) some-bits) ∙ sym (ap (drop 1) (shift-bits X (p .low))))
-      ∙ bytes-bits (shifted X) (below-shifted X (p .low))
+      ∙ bytes-bits (leftShifted X) (leftShifted-below X (p .low))
 
   -- X shifted is a block
   pub shift-block : Block (bytes (shiftLeft (bits X)))
-  shift-block = rw shift-left (record { len = length-shifted X ∙ p .len; low = below-shifted X (p .low) })
+  shift-block = rw shift-left (record { len = leftShifted-length X ∙ p .len; low = leftShifted-below X (p .low) })
 
   -- msb(X) is the top bit of byte 0
   pub first-bit : getD (bits X) 0 0 ≡ getD X 0 0 / 128
@@ -93,32 +93,32 @@ module _ (X : Bytes) (p : Block X) where
   abbrev lost : ℕ
   lost = getD X 0 0 / 128 * 135
 
-  in-last-byte : double X ≡ set (shifted X) 15 (bitXor (getD (shifted X) 15 0) lost)
+  in-last-byte : double X ≡ set (leftShifted X) 15 (bitXor (getD (leftShifted X) 15 0) lost)
   unfolding double
   in-last-byte =
       let n : 135 * getD (bits X) 0 0 ≡ lost = omega (arith, first-bit) in
       let small : lost < 256 = omega (arith, top-lt X (p .low)) in
       ap₂ (λ (l : Bytes) (m : ℕ). l ⊕ number m) shift-left n
-      ∙ ap (λ (l : Bytes). shifted X ⊕ l) (number-small lost small)
-      ∙ ⊕-last 15 lost (shifted X) (length-shifted X ∙ p .len)
+      ∙ ap (λ (l : Bytes). leftShifted X ⊕ l) (number-small lost small)
+      ∙ ⊕-last 15 lost (leftShifted X) (leftShifted-length X ∙ p .len)
 
 -- 2·X, byte by byte: bytes 0 to 14, and byte 15
-shifted-at : (X : Bytes) (i : ℕ) → i < length X → getD (shifted X) i 0 ≡ bitXor (getD X i 0 * 2 % 256) (getD X (suc i) 0 / 128)
-unfolding shifted
-shifted-at [] i h = absurd (omega arith)
-shifted-at (b ∷ X) zero h = refl
-shifted-at (b ∷ X) (suc i) h = shifted-at X i (omega arith)
+leftShifted-at : (X : Bytes) (i : ℕ) → i < length X → getD (leftShifted X) i 0 ≡ bitXor (getD X i 0 * 2 % 256) (getD X (suc i) 0 / 128)
+unfolding leftShifted
+leftShifted-at [] i h = absurd (omega arith)
+leftShifted-at (b ∷ X) zero h = refl
+leftShifted-at (b ∷ X) (suc i) h = leftShifted-at X i (omega arith)
 
 module _ (X : Bytes) (p : Block X) where
   pub length-double : length (double X) ≡ 16
   length-double =
-      ap length (in-last-byte X p) ∙ length-set (shifted X) 15 (bitXor (getD (shifted X) 15 0) (lost X p)) ∙ length-shifted X ∙ p .len
+      ap length (in-last-byte X p) ∙ length-set (leftShifted X) 15 (bitXor (getD (leftShifted X) 15 0) (lost X p)) ∙ leftShifted-length X ∙ p .len
 
   pub double-at : (i : ℕ) → i < 15 → getD (double X) i 0 ≡ bitXor (getD X i 0 * 2 % 256) (getD X (i + 1) 0 / 128)
   double-at i h =
       ap (λ (l : Bytes). getD l i 0) (in-last-byte X p)
-      ∙ getD-set-other (shifted X) 15 i (bitXor (getD (shifted X) 15 0) (lost X p)) 0 (λ e. omega arith)
-      ∙ shifted-at X i (omega (arith, p .len))
+      ∙ getD-set-other (leftShifted X) 15 i (bitXor (getD (leftShifted X) 15 0) (lost X p)) 0 (λ e. omega arith)
+      ∙ leftShifted-at X i (omega (arith, p .len))
       ∙ ap (λ (n : ℕ). bitXor (getD X i 0 * 2 % 256) (getD X n 0 / 128)) (sym (add-one i))
 
   -- the bit that is lost, times 135, goes into byte 15
@@ -126,9 +126,9 @@ module _ (X : Bytes) (p : Block X) where
   double-at-15 =
       let none : getD X 16 0 ≡ 0 = List·getD-eq-default X 0 (omega (arith, p .len)) in
       ap (λ (l : Bytes). getD l 15 0) (in-last-byte X p)
-      ∙ getD-set-same (shifted X) 15 (bitXor (getD (shifted X) 15 0) (lost X p)) 0 (omega (arith, length-shifted X, p .len))
+      ∙ getD-set-same (leftShifted X) 15 (bitXor (getD (leftShifted X) 15 0) (lost X p)) 0 (omega (arith, leftShifted-length X, p .len))
       ∙ ap (λ (m : ℕ). bitXor m (lost X p))
-      (shifted-at X 15 (omega (arith, p .len)) ∙ ap (λ (m : ℕ). bitXor (getD X 15 0 * 2 % 256) (m / 128)) none ∙ xor-zero-r (getD X 15 0 * 2 % 256))
+      (leftShifted-at X 15 (omega (arith, p .len)) ∙ ap (λ (m : ℕ). bitXor (getD X 15 0 * 2 % 256) (m / 128)) none ∙ xor-zero-r (getD X 15 0 * 2 % 256))
 
 -- ---- n·X
 

@@ -27,58 +27,58 @@ xtime-mask x h = by-top (x / 128) (x * 2 % 256) (omega arith)
 -- ---- MixColumns
 
 -- a byte of the result for each row: d is the doubles, s the bytes, each from its row on
-row0 : (d0 d1 s1 s2 s3 : ℕ) → bitXor d0 (bitXor (bitXor d1 s1) (bitXor s2 s3)) ≡ bitXor (bitXor (bitXor d0 (bitXor d1 s1)) s2) s3
-row0 d0 d1 s1 s2 s3 = simp xor-assoc
+mix-row0 : (d0 d1 s1 s2 s3 : ℕ) → bitXor d0 (bitXor (bitXor d1 s1) (bitXor s2 s3)) ≡ bitXor (bitXor (bitXor d0 (bitXor d1 s1)) s2) s3
+mix-row0 d0 d1 s1 s2 s3 = simp xor-assoc
 
-row1 : (d1 d2 s2 s3 s0 : ℕ) → bitXor d1 (bitXor (bitXor d2 s2) (bitXor s3 s0)) ≡ bitXor (bitXor (bitXor s0 d1) (bitXor d2 s2)) s3
-row1 d1 d2 s2 s3 s0 = simp (xor-assoc, xor-comm, xor-left-comm)
+mix-row1 : (d1 d2 s2 s3 s0 : ℕ) → bitXor d1 (bitXor (bitXor d2 s2) (bitXor s3 s0)) ≡ bitXor (bitXor (bitXor s0 d1) (bitXor d2 s2)) s3
+mix-row1 d1 d2 s2 s3 s0 = simp (xor-assoc, xor-comm, xor-left-comm)
 
-row2 : (d2 d3 s3 s0 s1 : ℕ) → bitXor d2 (bitXor (bitXor d3 s3) (bitXor s0 s1)) ≡ bitXor (bitXor (bitXor s0 s1) d2) (bitXor d3 s3)
-row2 d2 d3 s3 s0 s1 = simp (xor-assoc, xor-comm, xor-left-comm)
+mix-row2 : (d2 d3 s3 s0 s1 : ℕ) → bitXor d2 (bitXor (bitXor d3 s3) (bitXor s0 s1)) ≡ bitXor (bitXor (bitXor s0 s1) d2) (bitXor d3 s3)
+mix-row2 d2 d3 s3 s0 s1 = simp (xor-assoc, xor-comm, xor-left-comm)
 
-row3 : (d3 d0 s0 s1 s2 : ℕ) → bitXor d3 (bitXor (bitXor d0 s0) (bitXor s1 s2)) ≡ bitXor (bitXor (bitXor (bitXor d0 s0) s1) s2) d3
-row3 d3 d0 s0 s1 s2 = simp (xor-assoc, xor-comm, xor-left-comm)
+mix-row3 : (d3 d0 s0 s1 s2 : ℕ) → bitXor d3 (bitXor (bitXor d0 s0) (bitXor s1 s2)) ≡ bitXor (bitXor (bitXor (bitXor d0 s0) s1) s2) d3
+mix-row3 d3 d0 s0 s1 s2 = simp (xor-assoc, xor-comm, xor-left-comm)
 
 -- each column turned up by one row
-abbrev pub turned : Bytes → Bytes
-turned s = state (λ r c. at s ((r + 1) % 4) c)
+abbrev pub turnedColumns : Bytes → Bytes
+turnedColumns s = state (λ r c. at s ((r + 1) % 4) c)
 
 -- 2 of a byte and, turned up, 3 of the byte and the two below it
 abbrev pub mixedAll : (ℕ → ℕ) → Bytes → Bytes
-mixedAll f s = map f s ⊕ turned ((map f s ⊕ s) ⊕ turned (s ⊕ turned s))
+mixedAll f s = map f s ⊕ turnedColumns ((map f s ⊕ s) ⊕ turnedColumns (s ⊕ turnedColumns s))
 
 -- the four columns of MixColumns over any doubling f
-abbrev columns : (ℕ → ℕ) → (ℕ → ℕ) → Bytes
-columns f s = column 0 ++ column 4 ++ column 8 ++ column 12
+abbrev mixColumnsBy : (ℕ → ℕ) → (ℕ → ℕ) → Bytes
+mixColumnsBy f s = mixColumnAt 0 ++ mixColumnAt 4 ++ mixColumnAt 8 ++ mixColumnAt 12
   where
-    column : ℕ → Bytes
-    column c =
+    mixColumnAt : ℕ → Bytes
+    mixColumnAt c =
         bitXor (bitXor (bitXor (f (s c)) (bitXor (f (s (c + 1))) (s (c + 1)))) (s (c + 2))) (s (c + 3))
         ∷ bitXor (bitXor (bitXor (s c) (f (s (c + 1)))) (bitXor (f (s (c + 2))) (s (c + 2)))) (s (c + 3))
         ∷ bitXor (bitXor (bitXor (s c) (s (c + 1))) (f (s (c + 2)))) (bitXor (f (s (c + 3))) (s (c + 3)))
         ∷ bitXor (bitXor (bitXor (bitXor (f (s c)) (s c)) (s (c + 1))) (s (c + 2))) (f (s (c + 3)))
         ∷ []
 
-all-columns : (f s : ℕ → ℕ) → mixedAll f (tab 16 s) ≡ columns f s
+all-columns : (f s : ℕ → ℕ) → mixedAll f (tab 16 s) ≡ mixColumnsBy f s
 unfolding _⊕_ zip
 all-columns f s =
     λ i.
-    row0 (f (s 0)) (f (s 1)) (s 1) (s 2) (s 3) i
-    ∷ row1 (f (s 1)) (f (s 2)) (s 2) (s 3) (s 0) i
-    ∷ row2 (f (s 2)) (f (s 3)) (s 3) (s 0) (s 1) i
-    ∷ row3 (f (s 3)) (f (s 0)) (s 0) (s 1) (s 2) i
-    ∷ row0 (f (s 4)) (f (s 5)) (s 5) (s 6) (s 7) i
-    ∷ row1 (f (s 5)) (f (s 6)) (s 6) (s 7) (s 4) i
-    ∷ row2 (f (s 6)) (f (s 7)) (s 7) (s 4) (s 5) i
-    ∷ row3 (f (s 7)) (f (s 4)) (s 4) (s 5) (s 6) i
-    ∷ row0 (f (s 8)) (f (s 9)) (s 9) (s 10) (s 11) i
-    ∷ row1 (f (s 9)) (f (s 10)) (s 10) (s 11) (s 8) i
-    ∷ row2 (f (s 10)) (f (s 11)) (s 11) (s 8) (s 9) i
-    ∷ row3 (f (s 11)) (f (s 8)) (s 8) (s 9) (s 10) i
-    ∷ row0 (f (s 12)) (f (s 13)) (s 13) (s 14) (s 15) i
-    ∷ row1 (f (s 13)) (f (s 14)) (s 14) (s 15) (s 12) i
-    ∷ row2 (f (s 14)) (f (s 15)) (s 15) (s 12) (s 13) i
-    ∷ row3 (f (s 15)) (f (s 12)) (s 12) (s 13) (s 14) i
+    mix-row0 (f (s 0)) (f (s 1)) (s 1) (s 2) (s 3) i
+    ∷ mix-row1 (f (s 1)) (f (s 2)) (s 2) (s 3) (s 0) i
+    ∷ mix-row2 (f (s 2)) (f (s 3)) (s 3) (s 0) (s 1) i
+    ∷ mix-row3 (f (s 3)) (f (s 0)) (s 0) (s 1) (s 2) i
+    ∷ mix-row0 (f (s 4)) (f (s 5)) (s 5) (s 6) (s 7) i
+    ∷ mix-row1 (f (s 5)) (f (s 6)) (s 6) (s 7) (s 4) i
+    ∷ mix-row2 (f (s 6)) (f (s 7)) (s 7) (s 4) (s 5) i
+    ∷ mix-row3 (f (s 7)) (f (s 4)) (s 4) (s 5) (s 6) i
+    ∷ mix-row0 (f (s 8)) (f (s 9)) (s 9) (s 10) (s 11) i
+    ∷ mix-row1 (f (s 9)) (f (s 10)) (s 10) (s 11) (s 8) i
+    ∷ mix-row2 (f (s 10)) (f (s 11)) (s 11) (s 8) (s 9) i
+    ∷ mix-row3 (f (s 11)) (f (s 8)) (s 8) (s 9) (s 10) i
+    ∷ mix-row0 (f (s 12)) (f (s 13)) (s 13) (s 14) (s 15) i
+    ∷ mix-row1 (f (s 13)) (f (s 14)) (s 14) (s 15) (s 12) i
+    ∷ mix-row2 (f (s 14)) (f (s 15)) (s 15) (s 12) (s 13) i
+    ∷ mix-row3 (f (s 15)) (f (s 12)) (s 12) (s 13) (s 14) i
     ∷ []
 
 pub mix-columns : (s : Bytes) → length s ≡ 16 → mixedAll xtime s ≡ MixColumns s

@@ -1,19 +1,19 @@
 -- `aes::rounds` meets its contract. The invariant: s has had the rounds of the keys before key i.
-use mathlib.Core.List.{List}
+use mathlib.Core.List.{List, []}
 use mathlib.Core.Path.{_≡_, refl, ap, ap₂, sym, _∙_}
 use Prim.Native.Nat.{suc, _-_, _≤_}
 use native.Mathlib.Omega.{arith}
 use borrow.Author.Needs.{needs}
-use lib.ListN.{length, take, drop}
+use lib.ListN.{length, take, drop, getD}
 use Rattle.paper.specs.Strings.{Bytes, _⊕_}
 use Rattle.paper.specs.Section7.{aesenc, rounds}
 use Rattle.laws.proofs.Round.{rounds-more, AES-rounds}
-use Rattle.aes.specs.Columns.{bytesOf}
+use Rattle.aes.specs.Columns.{stateBytes}
 use Rattle.aes.proofs.rounds.Statement.{statement}
 use Rattle.aes.proofs.rounds.Tie as tie
 
 abbrev Inv-loop : tie.InvT-loop
-Inv-loop k t s₀ i₀ s i = (bytesOf s ≡ rounds (take (i - 1) (drop 1 k)) (bytesOf s₀)) × (1 ≤ i) × (i ≤ length k)
+Inv-loop k t s₀ i₀ s i = (stateBytes s ≡ rounds (take (i - 1) (drop 1 k)) (stateBytes s₀)) × (1 ≤ i) × (i ≤ length k)
 
 abbrev μ-loop : tie.MeasureT-loop
 μ-loop k t s₀ i₀ s i = length k - i
@@ -55,30 +55,41 @@ add-i c = search needs
 loop-less : tie.Need-loop-less Inv-loop μ-loop
 loop-less c = search needs
 
+-- the loop's test, from the end of a turn, and the start
+abbrev looped : tie.After-aesenc Inv-loop μ-loop → tie.At-loop Inv-loop μ-loop
+looped c = c .before .before .before .before .before
+
+abbrev start : tie.After-add Inv-loop μ-loop → tie.Start Inv-loop μ-loop
+start c = c .before .before .before .before .before
+
+-- the state with the first key added
+first : (c : tie.After-add Inv-loop μ-loop) → stateBytes (c .add .result) ≡ start c .args .x ⊕ getD (start c .args .k .now) 0 []
+first c = c .add .ensures ∙ ap₂ _⊕_ (c .before .columns2 .ensures) (c .before .before .columns .ensures)
+
 loop-again : tie.Need-loop-again Inv-loop μ-loop
 loop-again c =
-    let l = c .before .before .before .before .before .loop in
-    let k : List Bytes = c .before .before .before .before .before .before .before .before .before .before .before .args .k .now in (
+    let l = looped c in
+    let k : List Bytes = start (l .before) .args .k .now in (
       c .aesenc .ensures
-          ∙ ap₂ aesenc (l .inv .0) (c .before .before .columns3 .ensures)
-          ∙ sym (rounds-more (l .i) k (bytesOf (c .before .before .before .before .before .before .add .result)) (omega arith) (omega arith)),
+          ∙ ap₂ aesenc (l .loop .inv .0) (c .before .before .columns3 .ensures)
+          ∙ sym (rounds-more (l .loop .i) k (stateBytes (l .before .add .result)) (omega arith) (omega arith)),
       omega arith,
       omega arith,
     )
 
-bytes-requires : tie.Need-bytes-requires Inv-loop μ-loop
-bytes-requires c κs = search needs
+state-bytes-requires : tie.Need-state-bytes-requires Inv-loop μ-loop
+state-bytes-requires c κs = search needs
 
 returns : tie.Need-returns Inv-loop μ-loop
 returns c =
     let l = c .before .before .loop in
-    let a = c .before .before .before .before .before .before .before .before .args in
+    let added = c .before .before .before in
+    let a = start added .args in
     let k : List Bytes = a .k .now in
     let long : length k ≡ suc (l .i - 1) = omega arith in
-    let added = c .before .before .before .add .ensures ∙ ap₂ _⊕_ (c .before .before .before .before .columns2 .ensures) (c .before .before .before .before .before .columns .ensures) in
-    c .bytes .ensures
+    c .state-bytes .ensures
     ∙ l .inv .0
-    ∙ ap (λ (S : Bytes). rounds (take (l .i - 1) (drop 1 k)) S) added
+    ∙ ap (λ (S : Bytes). rounds (take (l .i - 1) (drop 1 k)) S) (first added)
     ∙ sym (AES-rounds (l .i - 1) k (a .x) long)
 
 pub rounds-spec : {M : Type 1} → statement M
@@ -100,5 +111,5 @@ rounds-spec =
     add-i
     loop-less
     loop-again
-    bytes-requires
+    state-bytes-requires
     returns)
