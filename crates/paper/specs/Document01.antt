@@ -1,4 +1,4 @@
--- Document 01: headers, the answers in the order in which they are tested, and for each call the number and the length that it returns
+-- Document 01: the index pairs, headers, the answers in the order in which they are tested, and for each call the number and the length that it returns
 -- and every byte of the output buffer. The numbers are 01's answers.
 use mathlib.Core.Bool.{_||_, _&&_, not}
 use mathlib.Core.List.{List, [], _∷_, _++_}
@@ -7,8 +7,47 @@ use Prim.Native.Nat.{ℕ, zero, suc, _+_, _*_}
 use lib.Dec.{eqb, leb, ltb}
 use lib.ListN.{length, take, drop, replicate}
 use Rattle.paper.specs.Strings.{Bytes, if_then_else_, digits}
-use Rattle.paper.specs.Figure6.{keyOf, E}
+use Rattle.paper.specs.Figure6.{Row, minus1, row, keyOf, E}
 use Rattle.paper.specs.Figure5.{encrypt, decrypt}
+
+-- ---- The index pairs
+
+-- what E is called for: for the i-th pair of blocks, for a string of n bytes, for block b of header string s ("Header hash"; 0 for a
+-- short last block)
+pub data Use : Type 0 where
+  a : Use
+  aᵢ : ℕ → Use
+  aaᵢ : ℕ → Use
+  x : Use
+  y : Use
+  xx : Use
+  yy : Use
+  u : Use
+  v : Use
+  uu : Use
+  vv : Use
+  tiny : ℕ → Use
+  tinyLast : Use
+  prf : Use
+  hash : ℕ → ℕ → Use
+
+-- j and i of E(j, i)
+abbrev pub indices : Use → Row × ℕ
+indices a = (row 0, 0)
+indices (aᵢ i) = (row 1, i)
+indices (aaᵢ i) = (row 2, i)
+indices x = (row 0, 1)
+indices y = (row 0, 2)
+indices xx = (minus1, 1)
+indices yy = (minus1, 2)
+indices u = (row 0, 4)
+indices v = (row 0, 5)
+indices uu = (minus1, 4)
+indices vv = (minus1, 5)
+indices (tiny n) = (row 0, (if leb 16 n then 6 else 7))
+indices tinyLast = (row 0, 3)
+indices prf = (minus1, 3)
+indices (hash s b) = (row (s + 2), b)
 
 -- ---- Headers
 

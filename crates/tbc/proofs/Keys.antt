@@ -1,6 +1,6 @@
 -- What a function is told of a parameter that is a key: its parts are blocks.
-use mathlib.Core.List.{List, [], _∷_, map}
-use mathlib.Core.Path.{_≡_, refl, ap, subst}
+use mathlib.Core.List.{List, map, map-id}
+use mathlib.Core.Path.{subst}
 use Prim.Native.Nat.{ℕ}
 use mir.Val.{Val}
 use denote.Laws.{Is}
@@ -12,12 +12,8 @@ use Rattle.tbc.specs.declared.Key.{Key}
 use Rattle.tbc.specs.Meaning.{blocks}
 use Rattle.tbc.proofs.Key.{the-type}
 
-map-same : (X : List ℕ) → map (λ (x : ℕ). x) X ≡ X
-map-same [] = refl
-map-same (x ∷ X) = ap (λ (l : List ℕ). x ∷ l) (map-same X)
-
 field-bytes : (X : List ℕ) → Block (map (λ (x : ℕ). x) X) → Block X
-field-bytes X p = subst (λ (l : List ℕ). Block l) (map-same X) p
+field-bytes X p = subst (λ (l : List ℕ). Block l) (map-id X) p
 
 pub key-bytes : (k : Key) (vs : List Val) → Is (row the-type) k vs → KeyBytes (blocks k)
 key-bytes k vs p =

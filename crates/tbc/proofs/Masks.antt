@@ -5,7 +5,8 @@ use Prim.Native.Nat.{ℕ, zero, suc, _%_, _≤_}
 use native.Mathlib.Omega.{arith}
 use Rattle.paper.specs.Strings.{Bytes, if_then_else_, _⊕_}
 use Rattle.paper.specs.Section7.{_·_}
-use Rattle.paper.specs.Figure6.{Row, minus1, row, masked}
+use Rattle.paper.specs.Figure6 as figure6
+use Rattle.paper.specs.Figure6.{Row, minus1, row, masked, E}
 use Rattle.tbc.specs.Meaning.{blocks, rowOf, Plain, Running}
 use Rattle.tbc.specs.declared.Key.{Key}
 use Rattle.tbc.specs.declared.Pair.{Pair}
@@ -13,8 +14,12 @@ use Rattle.tbc.specs.declared.Pair.{Pair}
 pub row-of : (p : Pair) (n : ℕ) → p .0 ≡ false → p .1 ≡ n → rowOf p ≡ row n
 row-of p n e f = ap₂ (λ (b : Bool) (m : ℕ). if b then minus1 else row m) e f
 
-pub row-minus : (p : Pair) → p .0 ≡ true → rowOf p ≡ minus1
-row-minus p e = ap (λ (b : Bool). if b then minus1 else row (p .1)) e
+-- E of a pair that names row -1, and of one that names row n
+pub in-minus1 : (K : figure6.Key) (X : Bytes) (p : Pair) → p .0 ≡ true → E K (rowOf p) (p .2) X ≡ E K minus1 (p .2) X
+in-minus1 K X p e = ap (λ (b : Bool). E K (if b then minus1 else row (p .1)) (p .2) X) e
+
+pub in-row : (K : figure6.Key) (X : Bytes) (p : Pair) (n : ℕ) → p .0 ≡ false → p .1 ≡ n → E K (rowOf p) (p .2) X ≡ E K (row n) (p .2) X
+in-row K X p n e f = ap (λ (r : Row). E K r (p .2) X) (row-of p n e f)
 
 plain-row : (i j : ℕ) → Plain (row i) j → (i ≡ 0 → ⊥) → (3 ≤ i) × (j ≡ 0)
 plain-row zero j h g = absurd (g refl)

@@ -6,7 +6,7 @@ use native.Mathlib.Omega.{arith}
 use Rattle.paper.specs.Strings.{Bytes}
 use Rattle.paper.specs.Section7.{twoTo}
 use Rattle.paper.specs.Figure6.{Row, minus1, row, Key, Defined, E}
-use Rattle.tbc.specs.Meaning.{pair, rowOf, Plain, Running}
+use Rattle.tbc.specs.Meaning.{pair, pairOf, rowOf, Plain, Running}
 use Rattle.tbc.specs.declared.Key as Code
 use Rattle.tbc.specs.declared.Pair.{Pair}
 use Rattle.tbc.proofs.Masks.{row-of}
@@ -23,6 +23,15 @@ pub running : (p : Pair) (i j : ℕ) → p ≡ pair false i j → (k : Code.Key)
 running p i j e k power g h c =
     subst⁻¹ (λ (q : Pair). Running k q power) e
     (record { plus = refl; counted = g; from1 = h; carried = c })
+
+-- the pair of two indices stands for them, so that `table` is 01's
+pub first-index : (r : Row) (i : ℕ) → rowOf (pairOf r i) ≡ r
+first-index minus1 i = refl
+first-index (row j) i = refl
+
+pub second-index : (r : Row) (i : ℕ) → pairOf r i .2 ≡ i
+second-index minus1 i = refl
+second-index (row j) i = refl
 
 -- ---- every call of E is one that the figure defines
 

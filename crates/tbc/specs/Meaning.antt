@@ -1,5 +1,6 @@
 -- What the structs of `tbc` stand for in Figure 6.
-use mathlib.Core.Bool.{Bool, false}
+use mathlib.Core.Bool.{Bool, true, false}
+use mathlib.Core.List.{List, [], _∷_, map}
 use mathlib.Core.Path.{_≡_}
 use Prim.Native.Nat.{ℕ, zero, suc, _-_, _/_, _%_, _≤_}
 use lib.Dec.{eqb}
@@ -7,6 +8,7 @@ use Rattle.paper.specs.Strings.{Bytes, if_then_else_}
 use Rattle.paper.specs.Section7.{double, twoTo}
 use Rattle.paper.specs.Figure6 as figure6
 use Rattle.paper.specs.Figure6.{Row, minus1, row}
+use Rattle.paper.specs.Document01.{Use, a, aᵢ, aaᵢ, x, y, xx, yy, u, v, uu, vv, tiny, tinyLast, prf, hash, indices}
 use Rattle.tbc.specs.declared.Key.{Key}
 use Rattle.tbc.specs.declared.Pair.{Pair}
 
@@ -21,6 +23,19 @@ pair minus first second = record { 0 = minus; 1 = first; 2 = second }
 -- the first index of a pair
 abbrev pub rowOf : Pair → Row
 rowOf p = if p .0 then minus1 else row (p .1)
+
+-- the pair of two indices
+abbrev pub pairOf : Row → ℕ → Pair
+pairOf minus1 i = pair true 1 i
+pairOf (row j) i = pair false j i
+
+-- 01's table, in its order, and the hash's row. A row for each number has 0, and so has the hash's for each string
+abbrev pub uses : List Use
+uses =
+    a ∷ aᵢ 0 ∷ aaᵢ 0 ∷ x ∷ y ∷ xx ∷ yy ∷ u ∷ v ∷ uu ∷ vv ∷ tiny 16 ∷ tiny 15 ∷ tinyLast ∷ prf ∷ hash 0 0 ∷ []
+
+abbrev pub indexPairs : List Pair
+indexPairs = map (λ (e : Use). pairOf (indices e .0) (indices e .1)) uses
 
 -- the power that follows the power for b
 abbrev pub nextPower : ℕ → Bytes → Bytes

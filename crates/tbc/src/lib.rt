@@ -5,7 +5,7 @@ ghost use lib.ListN.{length};
 ghost use Rattle.paper.specs.Strings.{_⊕_};
 ghost use Rattle.paper.specs.Section7.{_·_, AES4};
 ghost use Rattle.paper.specs.Figure6.{keyOf, k0, k1, k2, K10, E};
-ghost use Rattle.tbc.specs.Meaning.{blocks, pair, rowOf, nextPower, Plain, Running};
+ghost use Rattle.tbc.specs.Meaning.{blocks, pair, indexPairs, rowOf, nextPower, Plain, Running};
 
 // The key: the blocks I, J and L.
 pub struct Key {
@@ -62,6 +62,30 @@ impl Pair {
     pub const PRF: Pair = Pair(true, 1, 3);
 
     pub const HASH: Pair = Pair(false, 2, 0);
+
+    // The whole table: each row is 01's.
+    pub fn table() -> [Pair; 16]
+        ensures { λ r. ⌜ r ≡ indexPairs ⌝ }
+    {
+        [
+            Pair::A,
+            Pair::A_I,
+            Pair::AA_I,
+            Pair::X,
+            Pair::Y,
+            Pair::XX,
+            Pair::YY,
+            Pair::U,
+            Pair::V,
+            Pair::UU,
+            Pair::VV,
+            Pair::TINY,
+            Pair::TINY_SHORT,
+            Pair::TINY_LAST,
+            Pair::PRF,
+            Pair::HASH,
+        ]
+    }
 
     // The pair of the same row whose second index is i.
     pub fn at(self, i: u32) -> Pair

@@ -1,13 +1,14 @@
 -- `tbc::e` meets its contract.
-use mathlib.Core.Path.{refl, ap, ap₂, sym, _∙_}
-use Prim.Native.Nat.{ℕ}
+use mathlib.Core.Bool.{true}
+use mathlib.Core.Path.{_≡_, refl, ap, ap₂, sym, _∙_}
+use Prim.Native.Nat.{ℕ, _≤_}
 use borrow.Author.Needs.{needs}
 use Rattle.paper.specs.Strings.{Bytes, _⊕_}
 use Rattle.paper.specs.Section7.{_·_, AES}
-use Rattle.paper.specs.Figure6.{Row, k0, E}
+use Rattle.paper.specs.Figure6.{row, k0, E}
 use Rattle.laws.proofs.BlockFunction.{E-404, E-405, E-409}
 use Rattle.tbc.specs.Meaning.{blocks}
-use Rattle.tbc.proofs.Masks.{row-of, row-minus, at-409}
+use Rattle.tbc.proofs.Masks.{in-row, in-minus1, at-409}
 use Rattle.tbc.proofs.e.Statement.{statement}
 use Rattle.tbc.proofs.e.Tie as tie
 
@@ -26,13 +27,20 @@ keys10-requires c κs = search needs
 aes10-requires : tie.Need-aes10-requires
 aes10-requires c κs = search needs
 
+-- where row -1 is masked: the start, and that the pair names it
+abbrev start : tie.After-xor → tie.Start
+start c = c .before .before .before .before
+
+minus : (c : tie.After-xor) → start c .args .p .0 ≡ true
+minus c = c .before .before .before .if1 .taken
+
 returns : tie.Need-returns
 returns c =
-    let a = c .before .before .before .before .before .before .args in
-    let m = c .before .before .xor .ensures ∙ ap (λ (l : Bytes). a .x ⊕ l) (c .before .before .before .times .ensures) in
+    let m = c .before .before in
+    let a = start m .args in
     c .aes10 .ensures
-    ∙ ap₂ AES (c .before .keys10 .ensures) m
-    ∙ sym (ap (λ (r : Row). E (blocks (a .k)) r (a .p .2) (a .x)) (row-minus (a .p) (c .before .before .before .before .before .if1 .taken)) ∙ E-404 (blocks (a .k)) (a .x) (a .p .2))
+    ∙ ap₂ AES (c .before .keys10 .ensures) (m .xor .ensures ∙ ap (λ (l : Bytes). a .x ⊕ l) (m .before .times .ensures))
+    ∙ sym (in-minus1 (blocks (a .k)) (a .x) (a .p) (minus m) ∙ E-404 (blocks (a .k)) (a .x) (a .p .2))
 
 cast-under-multiple : tie.Need-cast-under-multiple
 cast-under-multiple c = search needs
@@ -44,25 +52,28 @@ returns-2 : tie.Need-returns-2
 returns-2 c =
     let a = c .before .before .before .args in
     c .under-multiple .ensures
-    ∙ sym (ap (λ (r : Row). E (blocks (a .k)) r (a .p .2) (a .x)) (row-of (a .p) 0 (c .before .before .if1 .left) (c .before .if2 .taken)) ∙ E-405 (blocks (a .k)) (a .x) (a .p .2))
+    ∙ sym (in-row (blocks (a .k)) (a .x) (a .p) 0 (c .before .before .if1 .left) (c .before .if2 .taken) ∙ E-405 (blocks (a .k)) (a .x) (a .p .2))
+
+-- where the row is neither -1 nor 0: line 409's
+at-its-row : (c : tie.Else2) → (3 ≤ c .before .before .args .p .1) × (c .before .before .args .p .2 ≡ 0)
+at-its-row c = let s = c .before .before in at-409 (s .args .p) (s .pre) (c .before .if1 .left) (c .if2 .left)
 
 row-number-requires : tie.Need-row-number-requires
-row-number-requires c κs =
-    let s = c .before .before in
-    at-409 (s .args .p) (s .pre) (c .before .if1 .left) (c .if2 .left) .0
+row-number-requires c κs = at-its-row c .0
 
 under-multiple-requires-2 : tie.Need-under-multiple-requires-2
 under-multiple-requires-2 c κs = search needs
 
 returns-3 : tie.Need-returns-3
 returns-3 c =
-    let s = c .before .before .before .before in
-    let a = s .args in
-    let plus = c .before .before .before .if1 .left in
-    let at = at-409 (a .p) (s .pre) plus (c .before .before .if2 .left) in
+    let other = c .before .before in
+    let a = other .before .before .args in
+    let at = at-its-row other in
     c .under-multiple2 .ensures
     ∙ ap (λ (n : ℕ). AES (k0 (blocks (a .k))) (a .x ⊕ n · a .k .j)) (c .before .row-number .ensures)
-    ∙ sym (ap₂ (λ (r : Row) (j : ℕ). E (blocks (a .k)) r j (a .x)) (row-of (a .p) (a .p .1) plus refl) (at .1) ∙ E-409 (blocks (a .k)) (a .x) (a .p .1) (at .0))
+    ∙ sym (in-row (blocks (a .k)) (a .x) (a .p) (a .p .1) (other .before .if1 .left) refl
+    ∙ ap (λ (j : ℕ). E (blocks (a .k)) (row (a .p .1)) j (a .x)) (at .1)
+    ∙ E-409 (blocks (a .k)) (a .x) (a .p .1) (at .0))
 
 pub e-spec : {M : Type 1} → statement M
 e-spec =

@@ -1,0 +1,10 @@
+-- `tbc::keys0` meets its contract.
+use mathlib.Core.Path.{refl}
+use Rattle.tbc.proofs.keys0.Statement.{statement}
+use Rattle.tbc.proofs.keys0.Tie as tie
+
+returns : tie.Need-returns
+returns c = refl
+
+pub keys0-spec : {M : Type 1} → statement M
+keys0-spec = tie.close (tie.spec returns)
