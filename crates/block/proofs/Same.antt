@@ -1,5 +1,5 @@
 -- Gathering what differs tells whether two strings are equal.
-use mathlib.Core.Bool.{Bool, true, false, _&&_}
+use mathlib.Core.Bool.{Bool, true, false, _&&_, and-true, and-assoc}
 use mathlib.Core.List.{List, [], _∷_, _++_}
 use mathlib.Core.Path.{_≡_, refl, ap, ap₂, sym, _∙_}
 use Prim.Native.Nat.{ℕ, _+_, _<_}
@@ -37,18 +37,10 @@ gathered f x y = go (eqb f 0) (eqb x y) refl refl
 -- one more pair of bytes at the end of two strings of one length
 same-more : (X Y : List ℕ) (x y : ℕ) → length X ≡ length Y → same (X ++ x ∷ []) (Y ++ y ∷ []) ≡ (same X Y && eqb x y)
 unfolding same
-same-more [] [] x y e = and-comm (eqb x y)
-  where
-    and-comm : (a : Bool) → (a && true) ≡ (true && a)
-    and-comm true = refl
-    and-comm false = refl
+same-more [] [] x y e = and-true (eqb x y)
 same-more [] (b ∷ Y) x y e = absurd (omega (arith, e))
 same-more (a ∷ X) [] x y e = absurd (omega (arith, e))
-same-more (a ∷ X) (b ∷ Y) x y e = ap (λ (t : Bool). eqb a b && t) (same-more X Y x y (omega (arith, e))) ∙ and-assoc (eqb a b) (same X Y) (eqb x y)
-  where
-    and-assoc : (a b c : Bool) → (a && (b && c)) ≡ ((a && b) && c)
-    and-assoc true b c = refl
-    and-assoc false b c = refl
+same-more (a ∷ X) (b ∷ Y) x y e = ap (λ (t : Bool). eqb a b && t) (same-more X Y x y (omega (arith, e))) ∙ sym (and-assoc (eqb a b) (same X Y) (eqb x y))
 
 -- a step of the loop: f is what was gathered of the first i bytes
 pub step : (a b : List ℕ) (f i : ℕ) → length a ≡ length b → i < length a → eqb f 0 ≡ same (take i a) (take i b)

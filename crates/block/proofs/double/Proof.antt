@@ -19,60 +19,34 @@ Inv-loop x r₀ i₀ r i = (i ≤ 15) × Front (double x) r i
 abbrev μ-loop : tie.MeasureT-loop
 μ-loop x r₀ i₀ r i = 15 - i
 
+-- x is a block
+block : (c : tie.Start Inv-loop μ-loop) → Block (c .args .t1)
+block c = array-bytes 16 _ _ (c .good .0)
+
 loop-holds : tie.Need-loop-holds Inv-loop μ-loop
-loop-holds c =
-    let x : Block (c .args .t1) = array-bytes 16 _ _ (c .good .0) in
-    (omega arith, record { long = sym (length-double (c .args .t1) x); same = refl })
-
-array-read-r : tie.Need-array-read-r Inv-loop μ-loop
-array-read-r c = search needs
-
-add-r : tie.Need-add-r Inv-loop μ-loop
-add-r c = search needs
-
-array-read-r-2 : tie.Need-array-read-r-2 Inv-loop μ-loop
-array-read-r-2 c = search needs
-
-array-write-r : tie.Need-array-write-r Inv-loop μ-loop
-array-write-r c = search needs
-
-add-i : tie.Need-add-i Inv-loop μ-loop
-add-i c = search needs
-
-loop-less : tie.Need-loop-less Inv-loop μ-loop
-loop-less c = search needs
+loop-holds c = (omega arith, record { long = sym (length-double (c .args .t1) (block c)); same = refl })
 
 loop-again : tie.Need-loop-again Inv-loop μ-loop
 loop-again c =
     let l = c .before .loop in
-    let x : Block (c .before .before .args .t1) = array-bytes 16 _ _ (c .before .before .good .0) in (
-      omega arith,
-      front-more _ (l .inv .1) (omega (arith, length-double (c .before .before .args .t1) x)) (sym (double-at (c .before .before .args .t1) x (l .i) (omega arith))),
-    )
-
-array-read-r-3 : tie.Need-array-read-r-3 Inv-loop μ-loop
-array-read-r-3 c = search needs
-
-array-read-r-4 : tie.Need-array-read-r-4 Inv-loop μ-loop
-array-read-r-4 c = search needs
+    let x = c .before .before .args .t1 in
+    let p = block (c .before .before) in
+    (omega arith, front-more _ (l .inv .1) (omega (arith, length-double x p)) (sym (double-at x p (l .i) (omega arith))))
 
 mul-r : tie.Need-mul-r Inv-loop μ-loop
 mul-r c =
-    let x : Block (c .before .before .args .t1) = array-bytes 16 _ _ (c .before .before .good .0) in
-    record { fits = omega (arith, below-getD 256 0 (c .before .before .args .t1) (zero-lt-suc 255) (x .low)) }
-
-array-write-r-2 : tie.Need-array-write-r-2 Inv-loop μ-loop
-array-write-r-2 c = search needs
+    let start = c .before .before in
+    record { fits = omega (arith, below-getD 256 0 (start .args .t1) (zero-lt-suc 255) (block start .low)) }
 
 returns : tie.Need-returns Inv-loop μ-loop
 returns c =
     let l = c .before .loop in
-    let a = c .before .before .args .t1 in
-    let x : Block a = array-bytes 16 _ _ (c .before .before .good .0) in
-    let long = length-double a x in
+    let x = c .before .before .args .t1 in
+    let p = block (c .before .before) in
+    let long = length-double x p in
     let done : l .i ≡ 15 = omega arith in
-    let before : Front (double a) (l .r) 15 = rw done at (l .inv .1) in
-    front-all (front-more _ before (omega (arith, long)) (sym (double-at-15 a x))) long
+    let before : Front (double x) (l .r) 15 = rw done at (l .inv .1) in
+    front-all (front-more _ before (omega (arith, long)) (sym (double-at-15 x p))) long
 
 pub double-spec : {M : Type 1} → statement M
 double-spec =
@@ -81,15 +55,15 @@ double-spec =
     Inv-loop
     μ-loop
     loop-holds
-    array-read-r
-    add-r
-    array-read-r-2
-    array-write-r
-    add-i
-    loop-less
+    (λ c. search needs)
+    (λ c. search needs)
+    (λ c. search needs)
+    (λ c. search needs)
+    (λ c. search needs)
+    (λ c. search needs)
     loop-again
-    array-read-r-3
-    array-read-r-4
+    (λ c. search needs)
+    (λ c. search needs)
     mul-r
-    array-write-r-2
+    (λ c. search needs)
     returns)
