@@ -4,7 +4,7 @@ use mathlib.Core.List.{[], _∷_, _++_, append-nil}
 use mathlib.Core.Option.{Option, none, some}
 use mathlib.Core.Path.{_≡_, refl, ap, ap₂, sym, _∙_}
 use Prim.Native.Nat.{ℕ, zero, suc, _+_, _-_, _≤_, _<_}
-use native.Mathlib.Nat.{zero-add}
+use native.Mathlib.Nat.{zero-add, sub-zero}
 use native.Mathlib.Omega.{arith}
 use borrow.Author.Tests.{eq-eqb, ne-eqb, le-ltb, lt-ltb}
 use lib.ListN.{length, take, drop, replicate, length-append, length-drop, take-append-drop}
@@ -20,47 +20,49 @@ use Rattle.wide.specs.declared.Way.the-variants.{Encipher, Decipher}
 use Rattle.wide.specs.Ways.{firstOf, secondOf}
 use Rattle.cipher.specs.Under.{ciphered, encryptUnder, decryptUnder, opens, leaves}
 
--- ---- Lines 200 to 202, by the length
+-- ---- Lines 200 to 202, by the length: Y is what the call left for X
 
-pub by-core : (w : Way) (f : BlockFunction) (Δ X : Bytes) → 32 ≤ length X → core f Δ (firstOf w) (secondOf w) X ≡ ciphered w f Δ X
-unfolding encipher decipher
-by-core Encipher f Δ X h = simp (le-ltb _ _ h)
-by-core Decipher f Δ X h = simp (le-ltb _ _ h)
+module _ (f : BlockFunction) (Δ X Y : Bytes) where
+  pub by-core : (w : Way) → 32 ≤ length X → Y ≡ core f Δ (firstOf w) (secondOf w) X → Y ≡ ciphered w f Δ X
+  unfolding encipher decipher
+  by-core Encipher h e = e ∙ simp (le-ltb _ _ h)
+  by-core Decipher h e = e ∙ simp (le-ltb _ _ h)
 
-module _ (f : BlockFunction) (Δ X : Bytes) (h : length X < 32) where
-  pub by-tiny : encipherTiny f Δ X ≡ ciphered Encipher f Δ X
-  unfolding encipher
-  by-tiny = simp (lt-ltb _ _ h)
+  module _ (h : length X < 32) where
+    pub by-tiny : (w : Way) → w ≡ Encipher → Y ≡ encipherTiny f Δ X → Y ≡ ciphered w f Δ X
+    unfolding encipher
+    by-tiny w is e = e ∙ simp (is, lt-ltb _ _ h)
 
-  pub by-tiny-back : decipherTiny f Δ X ≡ ciphered Decipher f Δ X
-  unfolding decipher
-  by-tiny-back = simp (lt-ltb _ _ h)
+    pub by-tiny-back : (w : Way) → w ≡ Decipher → Y ≡ decipherTiny f Δ X → Y ≡ ciphered w f Δ X
+    unfolding decipher
+    by-tiny-back w is e = e ∙ simp (is, lt-ltb _ _ h)
 
 -- ---- Strings put first in a buffer
 
--- a buffer with M first
-pub put-first : (M out : Bytes) → take 0 out ++ M ++ drop (0 + length M) out ≡ M ++ drop (length M) out
-put-first M out = ap (λ (k : ℕ). M ++ drop k out) (zero-add (length M))
+-- mid is the buffer out with M first
+module _ (M out mid : Bytes) (copied : mid ≡ take 0 out ++ M ++ drop (0 + length M) out) where
+  put-first : mid ≡ M ++ drop (length M) out
+  put-first = copied ∙ ap (λ (k : ℕ). M ++ drop k out) (zero-add (length M))
 
--- a string that fills the buffer
-pub put-all : (M out : Bytes) → length out ≤ length M → take 0 out ++ M ++ drop (0 + length M) out ≡ M
-put-all M out h = put-first M out ∙ ap (λ (l : Bytes). M ++ l) (no-entries (drop (length M) out) (length-drop (length M) out ∙ omega arith)) ∙ append-nil M
+  -- a string that fills the buffer
+  pub put-all : length M ≡ length out → mid ≡ M
+  put-all h = put-first ∙ ap (λ (l : Bytes). M ++ l) (no-entries (drop (length M) out) (length-drop (length M) out ∙ omega arith)) ∙ append-nil M
 
--- M first, and zeros for the rest
-pub cleared : (M out mid zs : Bytes) → length M ≤ length out → mid ≡ take 0 out ++ M ++ drop (0 + length M) out
-    → zs ≡ replicate (length (take (length mid - length M) (drop (length M) mid))) 0
-    → take (length M) mid ++ (zs ++ drop (length mid - length M) (drop (length M) mid)) ≡ M ++ replicate (length out - length M) 0
-cleared M out mid zs h e z =
-    let is : mid ≡ M ++ drop (length M) out = e ∙ put-first M out in
-    let long : length mid ≡ length out = ap length is ∙ length-append M (drop (length M) out) ∙ ap (λ (k : ℕ). length M + k) (length-drop (length M) out) ∙ omega arith in
-    let front : take (length M) mid ≡ M = ap (take (length M)) is ∙ take-append-seam M (drop (length M) out) in
-    let back : length (drop (length M) mid) ≡ length out - length M = length-drop (length M) mid ∙ ap (λ (k : ℕ). k - length M) long in
-    let all : length (take (length mid - length M) (drop (length M) mid)) ≡ length out - length M =
-    ap length (take-all (length mid - length M) (drop (length M) mid) (omega (arith, long, back))) ∙ back in
-    lent-end mid zs (length M) (omega (arith, long)) ∙ (λ i. front i ++ (z ∙ ap (λ (k : ℕ). replicate k 0) all) i)
+  -- M first, and zeros for the rest, which was lent
+  cleared : (zs : Bytes) → length M ≤ length out → zs ≡ replicate (length (take (length mid - length M) (drop (length M) mid))) 0
+      → take (length M) mid ++ (zs ++ drop (length mid - length M) (drop (length M) mid)) ≡ M ++ replicate (length out - length M) 0
+  cleared zs h z =
+      let n : ℕ = length out - length M in
+      let ends : length (drop (length M) out) ≡ n = length-drop (length M) out in
+      let long : length mid ≡ length out = ap length put-first ∙ length-append M (drop (length M) out) ∙ omega (arith, ends) in
+      let front : take (length M) mid ≡ M = ap (take (length M)) put-first ∙ take-append-seam M (drop (length M) out) in
+      let back : length (drop (length M) mid) ≡ n = length-drop (length M) mid ∙ ap (λ (k : ℕ). k - length M) long in
+      let all : take (length mid - length M) (drop (length M) mid) ≡ drop (length M) mid = take-all (length mid - length M) (drop (length M) mid) (omega (arith, long, back)) in
+      let zeros : zs ≡ replicate n 0 = z ∙ ap (λ (k : ℕ). replicate k 0) (ap length all ∙ back) in
+      lent-end mid zs (length M) (omega (arith, long)) ∙ (λ i. front i ++ zeros i)
 
 -- the first zeros of many
-pub take-zeros : (t n : ℕ) → t ≤ n → take {A = ℕ} t (replicate n 0) ≡ replicate t 0
+take-zeros : (t n : ℕ) → t ≤ n → take {A = ℕ} t (replicate n 0) ≡ replicate t 0
 take-zeros zero n h = refl
 take-zeros (suc t) zero h = absurd (omega (arith, h))
 take-zeros (suc t) (suc n) h = ap (λ (l : Bytes). 0 ∷ l) (take-zeros t n (omega (arith, h)))
@@ -68,16 +70,27 @@ take-zeros (suc t) (suc n) h = ap (λ (l : Bytes). 0 ∷ l) (take-zeros t n (ome
 -- ---- The branches
 
 module _ (E : BlockFunction) (Δ : Bytes) where
-  pub seals-none : (n : ℕ) (M : Bytes) → length M ≡ 0 → prfFrom E Δ n ≡ encryptUnder E Δ (n - length M) M
+  -- the empty text: out is filled
+  pub seals-none : (M out last : Bytes) → length M ≡ 0 → last ≡ prfFrom E Δ (length out) → last ≡ encryptUnder E Δ (length out - length M) M
   unfolding encryptUnder
-  seals-none n M e =
-      let all : n ≡ n - length M = omega (arith, e) in
-      ap (prfFrom E Δ) all
-      ∙ sym (ap (λ (b : Bool). if b then prfFrom E Δ (n - length M) else encipher E Δ (M ++ replicate (n - length M) 0)) (eq-eqb (length M) 0 e))
+  seals-none M out last e p =
+      let n : ℕ = length out - length M in
+      let all : length out ≡ n = omega (arith, e) in
+      p
+      ∙ ap (prfFrom E Δ) all
+      ∙ sym (ap (λ (b : Bool). if b then prfFrom E Δ n else encipher E Δ (M ++ replicate n 0)) (eq-eqb (length M) 0 e))
 
-  pub seals-some : (t : ℕ) (M : Bytes) → (length M ≡ 0 → ⊥) → encryptUnder E Δ t M ≡ encipher E Δ (M ++ replicate t 0)
+  -- another: it is put first, the rest is cleared, and all is enciphered
+  pub seals-some : (M out mid zs last : Bytes) → length M ≤ length out → (length M ≡ 0 → ⊥) → mid ≡ take 0 out ++ M ++ drop (0 + length M) out
+      → zs ≡ replicate (length (take (length mid - length M) (drop (length M) mid))) 0
+      → last ≡ encipher E Δ (take (length M) mid ++ (zs ++ drop (length mid - length M) (drop (length M) mid)))
+      → last ≡ encryptUnder E Δ (length out - length M) M
   unfolding encryptUnder
-  seals-some t M f = ap (λ (b : Bool). if b then prfFrom E Δ t else encipher E Δ (M ++ replicate t 0)) (ne-eqb (length M) 0 f)
+  seals-some M out mid zs last h f copied z e =
+      let n : ℕ = length out - length M in
+      e
+      ∙ ap (encipher E Δ) (cleared M out mid copied zs h z)
+      ∙ sym (ap (λ (b : Bool). if b then prfFrom E Δ n else encipher E Δ (M ++ replicate n 0)) (ne-eqb (length M) 0 f))
 
   module _ (t : ℕ) (C : Bytes) where
     -- what the check found, and the text
@@ -97,7 +110,7 @@ module _ (E : BlockFunction) (Δ : Bytes) where
     opens-checked true M = refl
     opens-checked false M = refl
 
-    -- a string of the stretch's length: whether it opens, and the zeros that it leaves
+    -- a string of the stretch's length: P is compared with it
     pub empty-opens : (P : Bytes) (n : ℕ) (r : Bool) → length C ≡ t → t ≡ n → P ≡ prfFrom E Δ n → r ≡ same C P → r ≡ opens (decryptUnder E Δ t C)
     empty-opens P n r e g p q =
         q
@@ -105,37 +118,49 @@ module _ (E : BlockFunction) (Δ : Bytes) where
         ∙ sym (opens-checked (same C (prfFrom E Δ t)) [])
         ∙ ap opens (sym (opened-empty e))
 
-    pub empty-leaves : length C ≡ t → replicate (length C) 0 ≡ leaves (decryptUnder E Δ t C) t (length C)
+    -- as many zeros are left, whether it opens or not
+    empty-leaves : length C ≡ t → replicate (length C) 0 ≡ leaves (decryptUnder E Δ t C) t (length C)
     empty-leaves e = go (same C (prfFrom E Δ t)) ∙ ap (λ (o : Option Bytes). leaves o t (length C)) (sym (opened-empty e))
       where
         go : (b : Bool) → replicate (length C) 0 ≡ leaves (checked b []) t (length C)
         go true = ap (λ (k : ℕ). replicate k 0) e
         go false = refl
 
+    -- the call for such a string, with the string's own length as the stretch, is the one for t
+    pub empty-answer : (r : Bool) (n : ℕ) (last : Bytes) → length C ≡ t → length C ≡ n → r ≡ opens (decryptUnder E Δ (length C) C) → last ≡ replicate n 0
+        → (r ≡ opens (decryptUnder E Δ t C)) × (last ≡ leaves (decryptUnder E Δ t C) t (length C))
+    empty-answer r n last e g o z =
+        (o ∙ ap (λ (k : ℕ). opens (decryptUnder E Δ k C)) e, z ∙ ap (λ (k : ℕ). replicate k 0) (sym g) ∙ empty-leaves e)
+
     -- a longer one: X is what it deciphers to
     module _ (X : Bytes) (is : X ≡ decipher E Δ C) (long : length X ≡ length C) (more : t < length C) where
-      opened-X : decryptUnder E Δ t C ≡ checked (same (drop (length C - t) X) (replicate t 0)) (take (length C - t) X)
+      -- its last bytes, which are to be zeros, and those before
+      abbrev end : Bytes
+      end = drop (length C - t) X
+
+      abbrev front : Bytes
+      front = take (length C - t) X
+
+      opened-X : decryptUnder E Δ t C ≡ checked (same end (replicate t 0)) front
       opened-X =
           opened-other (λ e. omega (arith, e))
           ∙ (λ i. checked (same (drop (length (sym is i) - t) (sym is i)) (replicate t 0)) (take (length (sym is i) - t) (sym is i)))
           ∙ ap (λ (k : ℕ). checked (same (drop (k - t) X) (replicate t 0)) (take (k - t) X)) long
 
-      -- what the check of the last bytes found
-      pub found : (at : ℕ) (zs : Bytes) (r : Bool) → at ≡ length C - t → zs ≡ replicate t 0
-          → r ≡ same (take (length C - at) (drop at X)) zs → r ≡ same (drop (length C - t) X) (replicate t 0)
-      found at zs r a z q =
-          q ∙ ap₂ same (take-all (length C - at) (drop at X) (omega (arith, length-drop at X, long, a)) ∙ ap (λ (k : ℕ). drop k X) a) z
+      right : same end (replicate t 0) ≡ true → X ≡ front ++ replicate t 0
+      right e = sym (take-append-drop (length C - t) X) ∙ ap (λ (l : Bytes). front ++ l) (same-equal end (replicate t 0) e)
 
-      pub right : same (drop (length C - t) X) (replicate t 0) ≡ true
-          → (true ≡ opens (decryptUnder E Δ t C)) × (X ≡ leaves (decryptUnder E Δ t C) t (length C))
-      right e =
-          let o : decryptUnder E Δ t C ≡ some (take (length C - t) X) = opened-X ∙ ap (λ (b : Bool). checked b (take (length C - t) X)) e in
-          let whole : take (length C - t) X ++ replicate t 0 ≡ X =
-          ap (λ (l : Bytes). take (length C - t) X ++ l) (sym (same-equal (drop (length C - t) X) (replicate t 0) e)) ∙ take-append-drop (length C - t) X in
-          (sym (ap opens o), sym whole ∙ sym (ap (λ (o : Option Bytes). leaves o t (length C)) o))
+      -- what is left, by what the check of the last bytes found
+      left : (b : Bool) → same end (replicate t 0) ≡ b → (if b then X else replicate (length X) 0) ≡ leaves (checked b front) t (length C)
+      left true e = right e
+      left false e = ap (λ (k : ℕ). replicate k 0) long
 
-      pub wrong : same (drop (length C - t) X) (replicate t 0) ≡ false
-          → (false ≡ opens (decryptUnder E Δ t C)) × (replicate (length C) 0 ≡ leaves (decryptUnder E Δ t C) t (length C))
-      wrong e =
-          let o : decryptUnder E Δ t C ≡ none = opened-X ∙ ap (λ (b : Bool). checked b (take (length C - t) X)) e in
-          (sym (ap opens o), sym (ap (λ (o : Option Bytes). leaves o t (length C)) o))
+      -- the comparison of the last bytes with as many zeros of 64 found b
+      pub answer : (r b : Bool) → r ≡ b → t ≤ 64 → r ≡ same (take (length C - (length C - t)) end) (take (t - 0) (replicate 64 0))
+          → (b ≡ opens (decryptUnder E Δ t C)) × ((if b then X else replicate (length X) 0) ≡ leaves (decryptUnder E Δ t C) t (length C))
+      answer r b is-b short q =
+          let whole : take (length C - (length C - t)) end ≡ end = take-all (length C - (length C - t)) end (omega (arith, length-drop (length C - t) X, long)) in
+          let zeros : take {A = ℕ} (t - 0) (replicate 64 0) ≡ replicate t 0 = ap (λ (k : ℕ). take {A = ℕ} k (replicate 64 0)) (sub-zero t) ∙ take-zeros t 64 short in
+          let found : same end (replicate t 0) ≡ b = sym (q ∙ ap₂ same whole zeros) ∙ is-b in
+          let o : checked b front ≡ decryptUnder E Δ t C = sym (opened-X ∙ ap (λ (b : Bool). checked b front) found) in
+          (sym (opens-checked b front) ∙ ap opens o, left b found ∙ ap (λ (o : Option Bytes). leaves o t (length C)) o)

@@ -1,19 +1,77 @@
 -- `cipher::decrypt` meets its contract.
-use mathlib.Core.Path.{_≡_, refl, ap, sym, _∙_}
-use Prim.Native.Nat.{ℕ, _-_, _<_}
-use native.Mathlib.Nat.{sub-zero}
+use mathlib.Core.Bool.{Bool, true, false}
+use mathlib.Core.Path.{_≡_, ap, sym, _∙_}
+use Prim.Native.Nat.{ℕ, _<_}
 use native.Mathlib.Omega.{arith}
 use borrow.Author.Needs.{needs}
 use lib.Arith.{lt-of-le-ne}
-use lib.ListN.{length, take, replicate}
-use Rattle.paper.specs.Strings.{Bytes}
-use Rattle.paper.specs.Figure6.{E}
+use lib.ListN.{length, replicate}
+use Rattle.paper.specs.Strings.{Bytes, if_then_else_}
+use Rattle.paper.specs.Figure6.{BlockFunction, E}
 use Rattle.paper.specs.Figure5.{decipher}
 use Rattle.tbc.specs.Meaning.{blocks}
-use Rattle.cipher.specs.Under.{decryptUnder, opens}
-use Rattle.cipher.proofs.Branches.{put-all, take-zeros, empty-leaves, found, right, wrong}
+use Rattle.cipher.specs.Under.{decryptUnder, opens, leaves}
+use Rattle.cipher.proofs.Branches.{put-all, empty-answer, answer}
 use Rattle.cipher.proofs.decrypt.Statement.{statement}
 use Rattle.cipher.proofs.decrypt.Tie as tie
+
+abbrev f : tie.Start → BlockFunction
+f s = E (blocks (s .args .k))
+
+abbrev C : tie.Start → Bytes
+C s = s .args .sealed .now
+
+abbrev t : tie.Start → ℕ
+t s = s .args .stretch
+
+-- ---- A string of the stretch's length
+
+abbrev equal : tie.After-decrypt-empty → tie.Then1
+equal c = c .before .before
+
+-- ---- Another: each call, from the one after it
+
+abbrev deciphered : tie.After-same-bytes → tie.After-cipher-in-place
+deciphered c = let lent : tie.After-slice-known4 = c .before .before .before .before .before in lent .before .before
+
+abbrev copied : tie.After-cipher-in-place → tie.After-copy
+copied c = c .before .before .before .before
+
+abbrev other : tie.After-copy → tie.Else1
+other c = c .before .before
+
+abbrev start : tie.Else1 → tie.Start
+start c = c .before .before .before
+
+-- where it is deciphered, and what it deciphers to
+abbrev entry : tie.After-cipher-in-place → tie.Start
+entry c = start (other (copied c))
+
+abbrev X : tie.After-cipher-in-place → Bytes
+X c = c .cipher-in-place .last .1 .1 .1 .0
+
+more : (c : tie.Else1) → t (start c) < length (C (start c))
+more c = lt-of-le-ne (omega (arith, start c .pre .0, start c .pre .2)) (λ e. c .if1 .left (sym e))
+
+put : (c : tie.After-copy) → c .copy .last .0 ≡ C (start (other c))
+put c = let s = start (other c) in put-all (C s) (s .args .out .now) (c .copy .last .0) (c .copy .ensures) (s .pre .0)
+
+is : (c : tie.After-cipher-in-place) → X c ≡ decipher (f (entry c)) (entry c .args .delta) (C (entry c))
+is c = c .cipher-in-place .ensures ∙ ap (decipher (f (entry c)) (entry c .args .delta)) (put (copied c))
+
+long : (c : tie.After-cipher-in-place) → length (X c) ≡ length (C (entry c))
+long c = c .cipher-in-place .kept .1 .1 .1 .0 ∙ ap length (put (copied c))
+
+-- what is returned and what is left, by what the comparison found
+answers : (c : tie.After-same-bytes) (b : Bool) → c .same-bytes .result ≡ b
+    → let d = deciphered c in
+    let s = entry d in
+    let o = decryptUnder (f s) (s .args .delta) (t s) (C s) in
+    (b ≡ opens o) × ((if b then X d else replicate (length (X d)) 0) ≡ leaves o (t s) (length (C s)))
+answers c b e =
+    let d = deciphered c in
+    let s = entry d in
+    answer (f s) (s .args .delta) (t s) (C s) (X d) (is d) (long d) (more (other (copied d))) (c .same-bytes .result) b e (s .pre .3) (c .same-bytes .ensures)
 
 decrypt-empty-requires : tie.Need-decrypt-empty-requires
 decrypt-empty-requires c κs = search needs
@@ -23,13 +81,9 @@ same-length c = search needs
 
 returns : tie.Need-returns
 returns c =
-    let a = c .before .before .before .before .before .before .before .args in
-    let is = c .before .before .before .before .if1 .taken in
-    let f = E (blocks (a .k)) in
-    let o = c .before .before .decrypt-empty .ensures in (
-      o .0 ∙ ap (λ (t : ℕ). opens (decryptUnder f (a .delta) t (a .sealed .now))) is,
-      o .1 ∙ ap (λ (n : ℕ). replicate n 0) (sym (c .before .before .before .before .before .before .before .pre .0)) ∙ empty-leaves f (a .delta) (a .stretch) (a .sealed .now) is,
-    )
+    let d = c .before .before in
+    let s = equal d .before .before .before in
+    empty-answer (f s) (s .args .delta) (t s) (C s) (d .decrypt-empty .result) (length (s .args .out .now)) (d .decrypt-empty .last .1 .1 .1 .0) (equal d .if1 .taken) (s .pre .0) (d .decrypt-empty .ensures .0) (d .decrypt-empty .ensures .1)
 
 copy-requires : tie.Need-copy-requires
 copy-requires c κs = search needs
@@ -65,19 +119,7 @@ same-length-2 : tie.Need-same-length-2
 same-length-2 c = search needs
 
 returns-2 : tie.Need-returns-2
-returns-2 c =
-    let a = c .before .before .before .before .before .before .before .before .before .before .before .before .before .before .before .before .before .args in
-    let f = E (blocks (a .k)) in
-    let C : Bytes = a .sealed .now in
-    let t : ℕ = a .stretch in
-    let X : Bytes = c .before .before .before .before .before .before .before .before .cipher-in-place .last .1 .1 .1 .0 in
-    let put = c .before .before .before .before .before .before .before .before .before .before .before .before .copy .ensures ∙ put-all C (a .out .now) (omega (arith, c .before .before .before .before .before .before .before .before .before .before .before .before .before .before .before .before .before .pre .0)) in
-    let is : X ≡ decipher f (a .delta) C = c .before .before .before .before .before .before .before .before .cipher-in-place .ensures ∙ ap (decipher f (a .delta)) put in
-    let long : length X ≡ length C = c .before .before .before .before .before .before .before .before .cipher-in-place .kept .1 .1 .1 .0 ∙ ap length put in
-    let more : t < length C = lt-of-le-ne (omega (arith, c .before .before .before .before .before .before .before .before .before .before .before .before .before .before .before .before .before .pre .0, c .before .before .before .before .before .before .before .before .before .before .before .before .before .before .before .before .before .pre .2)) (λ e. c .before .before .before .before .before .before .before .before .before .before .before .before .before .before .if1 .left (sym e)) in
-    let zeros : Bytes = replicate 64 0 in
-    let test = found f (a .delta) t C X is long more (length C - t) (take (t - 0) zeros) (c .before .same-bytes .result) refl (ap (λ (k : ℕ). take k zeros) (sub-zero t) ∙ take-zeros t 64 (c .before .before .before .before .before .before .before .before .before .before .before .before .before .before .before .before .before .pre .3)) (c .before .same-bytes .ensures) in
-    right f (a .delta) t C X is long more (sym test ∙ c .if2 .taken)
+returns-2 c = answers (c .before) true (c .if2 .taken)
 
 clear-requires : tie.Need-clear-requires
 clear-requires c κs = search needs
@@ -87,19 +129,10 @@ same-length-3 c = search needs
 
 returns-3 : tie.Need-returns-3
 returns-3 c =
-    let a = c .before .before .before .before .before .before .before .before .before .before .before .before .before .before .before .before .before .before .before .before .before .args in
-    let f = E (blocks (a .k)) in
-    let C : Bytes = a .sealed .now in
-    let t : ℕ = a .stretch in
-    let X : Bytes = c .before .before .before .before .before .before .before .before .before .before .before .before .cipher-in-place .last .1 .1 .1 .0 in
-    let put = c .before .before .before .before .before .before .before .before .before .before .before .before .before .before .before .before .copy .ensures ∙ put-all C (a .out .now) (omega (arith, c .before .before .before .before .before .before .before .before .before .before .before .before .before .before .before .before .before .before .before .before .before .pre .0)) in
-    let is : X ≡ decipher f (a .delta) C = c .before .before .before .before .before .before .before .before .before .before .before .before .cipher-in-place .ensures ∙ ap (decipher f (a .delta)) put in
-    let long : length X ≡ length C = c .before .before .before .before .before .before .before .before .before .before .before .before .cipher-in-place .kept .1 .1 .1 .0 ∙ ap length put in
-    let more : t < length C = lt-of-le-ne (omega (arith, c .before .before .before .before .before .before .before .before .before .before .before .before .before .before .before .before .before .before .before .before .before .pre .0, c .before .before .before .before .before .before .before .before .before .before .before .before .before .before .before .before .before .before .before .before .before .pre .2)) (λ e. c .before .before .before .before .before .before .before .before .before .before .before .before .before .before .before .before .before .before .if1 .left (sym e)) in
-    let zeros : Bytes = replicate 64 0 in
-    let test = found f (a .delta) t C X is long more (length C - t) (take (t - 0) zeros) (c .before .before .before .before .before .same-bytes .result) refl (ap (λ (k : ℕ). take k zeros) (sub-zero t) ∙ take-zeros t 64 (c .before .before .before .before .before .before .before .before .before .before .before .before .before .before .before .before .before .before .before .before .before .pre .3)) (c .before .before .before .before .before .same-bytes .ensures) in
-    let no = wrong f (a .delta) t C X is long more (sym test ∙ c .before .before .before .before .if2 .left) in
-    (no .0, c .before .before .clear .ensures ∙ ap (λ (n : ℕ). replicate n 0) long ∙ no .1)
+    let cleared = c .before .before in
+    let wrong = cleared .before .before in
+    let no = answers (wrong .before) false (wrong .if2 .left) in
+    (no .0, cleared .clear .ensures ∙ no .1)
 
 pub decrypt-spec : {M : Type 1} → statement M
 decrypt-spec =

@@ -3,11 +3,25 @@ use mathlib.Core.Path.{refl, ap, _∙_}
 use Prim.Native.Nat.{ℕ}
 use borrow.Author.Needs.{needs}
 use lib.ListN.{length, replicate}
+use Rattle.paper.specs.Strings.{Bytes}
 use Rattle.paper.specs.Figure6.{E}
 use Rattle.tbc.specs.Meaning.{blocks}
 use Rattle.cipher.proofs.Branches.{empty-opens}
 use Rattle.cipher.proofs.decrypt_empty.Statement.{statement}
 use Rattle.cipher.proofs.decrypt_empty.Tie as tie
+
+-- each call, from the one after it
+abbrev compared : tie.After-clear → tie.After-same-bytes
+compared c = c .before .before
+
+abbrev filled : tie.After-same-bytes → tie.After-prf
+filled c = c .before .before .before .before
+
+abbrev start : tie.After-prf → tie.Start
+start c = c .before .before .before .before
+
+abbrev C : tie.Start → Bytes
+C s = s .args .sealed .now
 
 prf-requires : tie.Need-prf-requires
 prf-requires c κs = search needs
@@ -23,9 +37,12 @@ same-length c = search needs
 
 returns : tie.Need-returns
 returns c =
-    let a = c .before .before .before .before .before .before .before .before .before .before .before .before .args in (
-      empty-opens (E (blocks (a .k))) (a .delta) (length (a .sealed .now)) (a .sealed .now) (c .before .before .before .before .before .before .before .before .prf .last .1 .1 .0) (length (a .out .now)) (c .before .before .before .before .same-bytes .result) refl (c .before .before .before .before .before .before .before .before .before .before .before .before .pre .0) (c .before .before .before .before .before .before .before .before .prf .ensures) (c .before .before .before .before .same-bytes .ensures),
-      c .before .before .clear .ensures ∙ ap (λ (n : ℕ). replicate n 0) (c .before .before .before .before .before .before .before .before .prf .kept .1 .1 .0),
+    let cleared = c .before .before in
+    let same = compared cleared .same-bytes in
+    let fill = filled (compared cleared) .prf in
+    let s = start (filled (compared cleared)) in (
+      empty-opens (E (blocks (s .args .k))) (s .args .delta) (length (C s)) (C s) (fill .last .1 .1 .0) (length (s .args .out .now)) (same .result) refl (s .pre .0) (fill .ensures) (same .ensures),
+      cleared .clear .ensures ∙ ap (λ (n : ℕ). replicate n 0) (fill .kept .1 .1 .0),
     )
 
 pub decrypt-empty-spec : {M : Type 1} → statement M

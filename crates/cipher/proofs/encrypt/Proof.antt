@@ -1,14 +1,33 @@
 -- `cipher::encrypt` meets its contract.
-use mathlib.Core.Path.{ap, sym, _∙_}
-use Prim.Native.Nat.{_-_}
 use borrow.Author.Needs.{needs}
-use lib.ListN.{length}
-use Rattle.paper.specs.Figure6.{E}
+use Rattle.paper.specs.Strings.{Bytes}
+use Rattle.paper.specs.Figure6.{BlockFunction, E}
 use Rattle.tbc.specs.Meaning.{blocks}
-use Rattle.paper.specs.Figure5.{encipher}
-use Rattle.cipher.proofs.Branches.{cleared, seals-none, seals-some}
+use Rattle.cipher.proofs.Branches.{seals-none, seals-some}
 use Rattle.cipher.proofs.encrypt.Statement.{statement}
 use Rattle.cipher.proofs.encrypt.Tie as tie
+
+abbrev f : tie.Start → BlockFunction
+f s = E (blocks (s .args .k))
+
+abbrev M : tie.Start → Bytes
+M s = s .args .text .now
+
+abbrev out : tie.Start → Bytes
+out s = s .args .out .now
+
+-- each call, from the one after it
+abbrev cleared : tie.After-cipher-in-place → tie.After-clear
+cleared c = c .before .before .before .before
+
+abbrev copied : tie.After-clear → tie.After-copy
+copied c = c .before .before .before .before
+
+abbrev some-text : tie.After-copy → tie.Else1
+some-text c = c .before .before
+
+abbrev no-text : tie.After-prf → tie.Then1
+no-text c = c .before .before
 
 prf-requires : tie.Need-prf-requires
 prf-requires c κs = search needs
@@ -18,8 +37,10 @@ same-length c = search needs
 
 returns : tie.Need-returns
 returns c =
-    let a = c .before .before .before .before .before .before .before .args in
-    c .before .before .prf .ensures ∙ seals-none (E (blocks (a .k))) (a .delta) (length (a .out .now)) (a .text .now) (c .before .before .before .before .if1 .taken)
+    let fill = c .before .before in
+    let none = no-text fill in
+    let s = none .before .before .before in
+    seals-none (f s) (s .args .delta) (M s) (out s) (fill .prf .last .1 .1 .0) (none .if1 .taken) (fill .prf .ensures)
 
 copy-requires : tie.Need-copy-requires
 copy-requires c κs = search needs
@@ -44,12 +65,12 @@ same-length-2 c = search needs
 
 returns-2 : tie.Need-returns-2
 returns-2 c =
-    let a = c .before .before .before .before .before .before .before .before .before .before .before .before .before .before .before .args in
-    let f = E (blocks (a .k)) in
-    let zeros = cleared (a .text .now) (a .out .now) (c .before .before .before .before .before .before .before .before .before .before .copy .last .0) (c .before .before .before .before .before .before .clear .last .0) (c .before .before .before .before .before .before .before .before .before .before .before .before .before .before .before .pre .0) (c .before .before .before .before .before .before .before .before .before .before .copy .ensures) (c .before .before .before .before .before .before .clear .ensures) in
-    c .before .before .cipher-in-place .ensures
-    ∙ ap (encipher f (a .delta)) zeros
-    ∙ sym (seals-some f (a .delta) (length (a .out .now) - length (a .text .now)) (a .text .now) (c .before .before .before .before .before .before .before .before .before .before .before .before .if1 .left))
+    let sealed = c .before .before in
+    let clear = cleared sealed .clear in
+    let copy = copied (cleared sealed) .copy in
+    let some = some-text (copied (cleared sealed)) in
+    let s = some .before .before .before in
+    seals-some (f s) (s .args .delta) (M s) (out s) (copy .last .0) (clear .last .0) (sealed .cipher-in-place .last .1 .1 .1 .0) (s .pre .0) (some .if1 .left) (copy .ensures) (clear .ensures) (sealed .cipher-in-place .ensures)
 
 pub encrypt-spec : {M : Type 1} → statement M
 encrypt-spec =
