@@ -1,11 +1,11 @@
 -- What the settled number means: another than 0 is the refusal of that number, and 0 says that every test before the check was passed.
 use mathlib.Core.Bool.{Bool, true, false, not}
-use mathlib.Core.List.{List}
+use mathlib.Core.List.{List, [], _∷_}
 use mathlib.Core.Option.{Option, none, some}
-use mathlib.Core.Path.{_≡_, refl, ap, sym, _∙_}
-use Prim.Native.Nat.{ℕ, zero, suc, _+_, _≤_}
+use mathlib.Core.Path.{_≡_, refl, ap, sym, subst, _∙_}
+use Prim.Native.Nat.{ℕ, _+_, _≤_}
 use native.Mathlib.Omega.{arith}
-use borrow.Author.Tests.{eq-eqb, ne-eqb, eqb-true, ltb-false}
+use borrow.Author.Tests.{eq-eqb, ne-eqb, eqb-true, eqb-false, ltb-false}
 use lib.Dec.{eqb, ltb}
 use lib.ListN.{length}
 use Rattle.paper.specs.Strings.{Bytes, if_then_else_}
@@ -14,8 +14,86 @@ use Rattle.paper.specs.Figure5.{encrypt, decrypt}
 use Rattle.paper.specs.Document01.{Outcome, readHeader, refused, done, longestSealed, longestStretch, sealUnder, sealing, opened, openUnder, opening}
 use Rattle.record.specs.Settled.{unread, settledCommon, first, settledSealing, settledOpening}
 
+-- ---- Tests in their order
+
+-- the number that is answered where the test holds, and whether it holds
+data Test : Type 0 where
+  test : ℕ → Bool → Test
+
+-- the number of the first that holds, or 0
+abbrev settles : List Test → ℕ
+settles [] = 0
+settles (test n b ∷ ts) = if b then n else settles ts
+
+-- the refusal of the first that holds, or what is done once all are passed
+abbrev call : List Test → Outcome → Bytes → Outcome
+call [] o out = o
+call (test n b ∷ ts) o out = if b then refused n out else call ts o out
+
+-- no test holds
+abbrev Passes : List Test → Type 0
+Passes [] = Unit {0}
+Passes (test n b ∷ ts) = (b ≡ false) × Passes ts
+
+-- each number has P
+abbrev Each : (ℕ → Type 0) → List Test → Type 0
+Each P [] = Unit {0}
+Each P (test n b ∷ ts) = P n × Each P ts
+
+passes : (ts : List Test) → Each (λ n. 1 ≤ n) ts → settles ts ≡ 0 → Passes ts
+passes [] h e = tt
+passes (test n true ∷ ts) h e = absurd (omega (arith, e, h .0))
+passes (test n false ∷ ts) h e = (refl, passes ts (h .1) e)
+
+-- what 0 and each number have, the settled number has
+settles-in : (P : ℕ → Type 0) (ts : List Test) → P 0 → Each P ts → P (settles ts)
+settles-in P [] z h = z
+settles-in P (test n true ∷ ts) z h = h .0
+settles-in P (test n false ∷ ts) z h = settles-in P ts z (h .1)
+
+call-refused : (ts : List Test) (o : Outcome) (out : Bytes) (n : ℕ) → n ≡ settles ts → (n ≡ 0 → ⊥) → call ts o out ≡ refused n out
+call-refused [] o out n e f = absurd (f e)
+call-refused (test m true ∷ ts) o out n e f = ap (λ (k : ℕ). refused k out) (sym e)
+call-refused (test m false ∷ ts) o out n e f = call-refused ts o out n e f
+
+call-done : (ts : List Test) (o : Outcome) (out : Bytes) → Passes ts → call ts o out ≡ o
+call-done [] o out p = refl
+call-done (test n b ∷ ts) o out p = ap (λ (b : Bool). if b then refused n out else call ts o out) (p .0) ∙ call-done ts o out (p .1)
+
+-- what each refusal has, and what is done, the call has
+call-in : (P : Outcome → Type 0) (ts : List Test) (o : Outcome) (out : Bytes) → Each (λ n. P (refused n out)) ts → P o → P (call ts o out)
+call-in P [] o out h p = p
+call-in P (test n true ∷ ts) o out h p = h .0
+call-in P (test n false ∷ ts) o out h p = call-in P ts o out (h .1) p
+
+-- ---- The first of two numbers that is not 0
+
+first-other : (m n : ℕ) → (m ≡ 0 → ⊥) → first m n ≡ m
+first-other m n f = ap (λ (b : Bool). if b then n else m) (ne-eqb m 0 f)
+
+first-none : (m n : ℕ) → m ≡ 0 → first m n ≡ n
+first-none m n e = ap (λ (b : Bool). if b then n else m) (eq-eqb m 0 e)
+
+-- a number that is m, and not 0
+pub first-is : (m later n : ℕ) → n ≡ m → (n ≡ 0 → ⊥) → n ≡ first m later
+first-is m later n e f = e ∙ sym (first-other m later (λ z. f (e ∙ z)))
+
+first-0 : (m n : ℕ) → first m n ≡ 0 → m ≡ 0
+first-0 m n e = go (eqb m 0) refl
+  where
+    go : (b : Bool) → eqb m 0 ≡ b → m ≡ 0
+    go true p = eqb-true m 0 p
+    go false p = sym (first-other m n (eqb-false m 0 p)) ∙ e
+
+-- 3 holds
+abbrev unreadable : Option (List Bytes) → Bool
+unreadable none = true
+unreadable (some strings) = false
+
 module _ (key header : Bytes) (stretch : ℕ) where
-  -- tests 1, 2 and 3 are passed
+  -- ---- Tests 1, 2 and 3
+
+  -- they are passed
   pub record Passed : Type 0 where
     pub key-long : length key ≡ 48
     pub short : stretch ≤ longestStretch
@@ -34,81 +112,115 @@ module _ (key header : Bytes) (stretch : ℕ) where
       go true false (some ss) p q r e =
           record { key-long = eqb-true (length key) 48 p; short = ltb-false longestStretch stretch q; strings = ss; reads = r }
 
-  -- a first number that is 0 lets the second through, and any other is the number
-  pub first-other : (m n : ℕ) → (m ≡ 0 → ⊥) → first m n ≡ m
-  first-other m n f = ap (λ (b : Bool). if b then n else m) (ne-eqb m 0 f)
+  -- the number by what the tests found
+  pub common-then : (a b : Bool) → eqb (length key) 48 ≡ a → ltb longestStretch stretch ≡ b
+      → (if not a then 1 else if b then 2 else unread (readHeader header)) ≡ settledCommon key header stretch
+  unfolding settledCommon
+  common-then a b p q = λ i. if not (sym p i) then 1 else if sym q i then 2 else unread (readHeader header)
 
-  pub first-none : (m n : ℕ) → m ≡ 0 → first m n ≡ n
-  first-none m n e = ap (λ (b : Bool). if b then n else m) (eq-eqb m 0 e)
+  -- they come before some later ones
+  abbrev tests : List Test → List Test
+  tests later = test 1 (not (eqb (length key) 48)) ∷ test 2 (ltb longestStretch stretch) ∷ test 3 (unreadable (readHeader header)) ∷ later
 
-  -- where the number is not 0, the refusal, and else the rest of the call
-  abbrev pub numbered : ℕ → Outcome → Bytes → Outcome
-  numbered n o out = if eqb n 0 then o else refused n out
+  first-tests : (later : List Test) → first (settledCommon key header stretch) (settles later) ≡ settles (tests later)
+  unfolding settledCommon
+  first-tests later = go (eqb (length key) 48) (ltb longestStretch stretch) (readHeader header)
+    where
+      go : (a b : Bool) (o : Option (List Bytes)) → first (if not a then 1 else if b then 2 else unread o) (settles later)
+          ≡ (if not a then 1 else if b then 2 else if unreadable o then 3 else settles later)
+      go false b o = refl
+      go true true o = refl
+      go true false none = refl
+      go true false (some ss) = refl
 
-  pub numbered-0 : (n : ℕ) (o : Outcome) (out : Bytes) → n ≡ 0 → numbered n o out ≡ o
-  numbered-0 n o out e = ap (λ (b : Bool). if b then o else refused n out) (eq-eqb n 0 e)
+  then-later : (later : List Test) (n : ℕ) → n ≡ settledCommon key header stretch → n ≡ 0 → settles later ≡ first (settledCommon key header stretch) (settles later)
+  then-later later n e z = sym (first-none (settledCommon key header stretch) (settles later) (sym e ∙ z))
 
-  pub numbered-other : (n : ℕ) (o : Outcome) (out : Bytes) → (n ≡ 0 → ⊥) → numbered n o out ≡ refused n out
-  numbered-other n o out f = ap (λ (b : Bool). if b then o else refused n out) (ne-eqb n 0 f)
+  -- where the number is 0, they and the later ones are passed
+  all-passed : (later : List Test) → Each (λ n. 1 ≤ n) later → (n : ℕ) → n ≡ first (settledCommon key header stretch) (settles later) → n ≡ 0 → Passed × Passes later
+  all-passed later positive n e z =
+      let common : settledCommon key header stretch ≡ 0 = first-0 (settledCommon key header stretch) (settles later) (sym e ∙ z) in
+      (passed common, passes later positive (sym (first-none (settledCommon key header stretch) (settles later) common) ∙ sym e ∙ z))
+
+  -- what 0 and each of the numbers have, the number has
+  number-in : (later : List Test) (P : ℕ → Type 0) → P 0 → Each P (tests later) → P (first (settledCommon key header stretch) (settles later))
+  number-in later P z h = subst P (sym (first-tests later)) (settles-in P (tests later) z h)
+
+  -- ---- A call with later tests: number is what all of them settle, and once they are passed the rest is done with the header
+
+  record Door (later : List Test) (number : ℕ) (rest : Option (List Bytes) → Outcome) (out : Bytes) (result : Outcome) : Type 0 where
+    settled : number ≡ first (settledCommon key header stretch) (settles later)
+    is-call : result ≡ call (tests later) (rest (readHeader header)) out
+
+  -- it may be written with the later tests under the header
+  under-header : (later : List Test) (under rest : Option (List Bytes) → Outcome) (out : Bytes)
+      → ((o : Option (List Bytes)) → under o ≡ (if unreadable o then refused 3 out else call later (rest o) out))
+      → (if not (eqb (length key) 48) then refused 1 out else if ltb longestStretch stretch then refused 2 out else under (readHeader header))
+      ≡ call (tests later) (rest (readHeader header)) out
+  under-header later under rest out h =
+      ap (λ (o : Outcome). if not (eqb (length key) 48) then refused 1 out else if ltb longestStretch stretch then refused 2 out else o) (h (readHeader header))
+
+  module _ {later : List Test} {number : ℕ} {rest : Option (List Bytes) → Outcome} {out : Bytes} {result : Outcome} (door : Door later number rest out result) where
+    door-refused : (n : ℕ) → n ≡ number → (n ≡ 0 → ⊥) → result ≡ refused n out
+    door-refused n e f = door .is-call ∙ call-refused (tests later) (rest (readHeader header)) out n (e ∙ door .settled ∙ first-tests later) f
+
+    door-done : Each (λ n. 1 ≤ n) later → (n : ℕ) (strings : List Bytes) → n ≡ number → n ≡ 0 → readHeader header ≡ some strings → result ≡ rest (some strings)
+    door-done positive n strings e z r =
+        let none = passes (tests later) (omega arith, (omega arith, (omega arith, positive))) (sym (e ∙ door .settled ∙ first-tests later) ∙ z) in
+        door .is-call ∙ call-done (tests later) (rest (readHeader header)) out none ∙ ap rest r
+
+    door-in : (P : Outcome → Type 0) → Each (λ n. P (refused n out)) (tests later) → ((o : Option (List Bytes)) → P (rest o)) → P result
+    door-in P h p = subst P (sym (door .is-call)) (call-in P (tests later) (rest (readHeader header)) out h (p (readHeader header)))
 
   -- ---- Sealing
 
   -- tests 4 and 6 by what they found
-  abbrev room : Bool → Bool → ℕ
-  room c d = if c then 4 else if d then 6 else 0
+  abbrev sealing-later : Bool → Bool → List Test
+  sealing-later c d = test 4 c ∷ test 6 d ∷ []
 
-  pub sealing-then : (text room-bytes n : ℕ) (c d : Bool) → n ≡ settledCommon key header stretch → n ≡ 0
-      → ltb longestSealed (text + stretch) ≡ c → ltb room-bytes (text + stretch) ≡ d → room c d ≡ settledSealing key header stretch text room-bytes
+  -- for a text and an output of so many bytes
+  abbrev sealing-tests : ℕ → ℕ → List Test
+  sealing-tests text out = sealing-later (ltb longestSealed (text + stretch)) (ltb out (text + stretch))
+
+  pub sealing-then : (text room n : ℕ) (c d : Bool) → n ≡ settledCommon key header stretch → n ≡ 0
+      → ltb longestSealed (text + stretch) ≡ c → ltb room (text + stretch) ≡ d → (if c then 4 else if d then 6 else 0) ≡ settledSealing key header stretch text room
   unfolding settledSealing
-  sealing-then text room-bytes n c d e z p q =
-      (λ i. room (sym p i) (sym q i)) ∙ sym (first-none (settledCommon key header stretch) _ (sym e ∙ z))
+  sealing-then text room n c d e z p q =
+      then-later (sealing-later c d) n e z ∙ (λ i. first (settledCommon key header stretch) (settles (sealing-later (sym p i) (sym q i))))
 
-  pub sealing-first : (text room-bytes n : ℕ) → n ≡ settledCommon key header stretch → (n ≡ 0 → ⊥) → n ≡ settledSealing key header stretch text room-bytes
-  unfolding settledSealing
-  sealing-first text room-bytes n e f = e ∙ sym (first-other (settledCommon key header stretch) _ (λ z. f (e ∙ z)))
+  module _ (text out : Bytes) where
+    -- what is done with the header's strings
+    sealed-with : Option (List Bytes) → Outcome
+    sealed-with none = refused 3 out
+    sealed-with (some strings) = done (length text + stretch) (encrypt (E (keyOf key)) strings stretch text) out
 
-  -- sealing is the settled number's refusal, or what is done with the header's strings
-  sealed-with : Option (List Bytes) → Bytes → Bytes → Outcome
-  sealed-with none text out = refused 3 out
-  sealed-with (some strings) text out = done (length text + stretch) (encrypt (E (keyOf key)) strings stretch text) out
+    sealing-door : Door (sealing-tests (length text) (length out)) (settledSealing key header stretch (length text) (length out)) sealed-with out
+        (sealing key header stretch text out)
+    unfolding sealing sealUnder settledSealing sealed-with
+    sealing-door = record { settled = refl; is-call = under-header (sealing-tests (length text) (length out)) (λ o. sealUnder o key stretch text out) sealed-with out by }
+      where
+        by : (o : Option (List Bytes))
+            → sealUnder o key stretch text out ≡ (if unreadable o then refused 3 out else call (sealing-tests (length text) (length out)) (sealed-with o) out)
+        by none = refl
+        by (some ss) = refl
 
-  sealing-numbered : (text out : Bytes)
-      → sealing key header stretch text out ≡ numbered (settledSealing key header stretch (length text) (length out)) (sealed-with (readHeader header) text out) out
-  unfolding sealing sealUnder settledSealing settledCommon sealed-with
-  sealing-numbered text out =
-      go (eqb (length key) 48) (ltb longestStretch stretch) (readHeader header) (ltb longestSealed (length text + stretch)) (ltb (length out) (length text + stretch)) refl refl
-    where
-      size : ℕ
-      size = length text + stretch
+    pub sealing-refused : (n : ℕ) → n ≡ settledSealing key header stretch (length text) (length out) → (n ≡ 0 → ⊥) → sealing key header stretch text out ≡ refused n out
+    sealing-refused = door-refused sealing-door
 
-      go : (a b : Bool) (o : Option (List Bytes)) (c d : Bool) → ltb longestSealed (length text + stretch) ≡ c → ltb (length out) (length text + stretch) ≡ d
-          → (if not a then refused 1 out else if b then refused 2 out else sealUnder o key stretch text out)
-          ≡ numbered (first (if not a then 1 else if b then 2 else unread o) (room c d)) (sealed-with o text out) out
-      go false b o c d p q = refl
-      go true true o c d p q = refl
-      go true false none c d p q = refl
-      go true false (some ss) c d p q =
-          (λ i. if p i then refused 4 out else if q i then refused 6 out else sealed-with (some ss) text out) ∙ by c d
-        where
-          by : (c d : Bool) → (if c then refused 4 out else if d then refused 6 out else sealed-with (some ss) text out) ≡ numbered (first 0 (room c d)) (sealed-with (some ss) text out) out
-          by true d = refl
-          by false true = refl
-          by false false = refl
+    pub sealing-done : (n : ℕ) (strings : List Bytes) → n ≡ settledSealing key header stretch (length text) (length out) → n ≡ 0
+        → readHeader header ≡ some strings → sealing key header stretch text out ≡ done (length text + stretch) (encrypt (E (keyOf key)) strings stretch text) out
+    unfolding sealed-with
+    sealing-done = door-done sealing-door (omega arith, (omega arith, tt))
 
-  pub sealing-refused : (text out : Bytes) (n : ℕ) → n ≡ settledSealing key header stretch (length text) (length out) → (n ≡ 0 → ⊥)
-      → sealing key header stretch text out ≡ refused n out
-  sealing-refused text out n e f =
-      sealing-numbered text out
-      ∙ ap (λ (m : ℕ). numbered m (sealed-with (readHeader header) text out) out) (sym e)
-      ∙ numbered-other n (sealed-with (readHeader header) text out) out f
-
-  pub sealing-done : (text out : Bytes) (n : ℕ) (strings : List Bytes) → n ≡ settledSealing key header stretch (length text) (length out) → n ≡ 0
-      → readHeader header ≡ some strings → sealing key header stretch text out ≡ done (length text + stretch) (encrypt (E (keyOf key)) strings stretch text) out
-  unfolding sealed-with
-  sealing-done text out n strings e z r =
-      sealing-numbered text out
-      ∙ (λ i. numbered (sym e i) (sealed-with (r i) text out) out)
-      ∙ numbered-0 n (sealed-with (some strings) text out) out z
+    -- what the refusals 1, 2, 3, 4 and 6 have, and what is done, sealing has
+    pub sealing-in : (P : Outcome → Type 0) → P (refused 1 out) → P (refused 2 out) → P (refused 3 out) → P (refused 4 out) → P (refused 6 out)
+        → ((strings : List Bytes) → P (done (length text + stretch) (encrypt (E (keyOf key)) strings stretch text) out)) → P (sealing key header stretch text out)
+    unfolding sealed-with
+    sealing-in P p1 p2 p3 p4 p6 h = door-in sealing-door P (p1, (p2, (p3, (p4, (p6, tt))))) by
+      where
+        by : (o : Option (List Bytes)) → P (sealed-with o)
+        by none = p3
+        by (some strings) = h strings
 
   -- 0 says that tests 1 to 3 are passed, and 4 and 6
   pub record Fits (text out : ℕ) : Type 0 where
@@ -119,69 +231,61 @@ module _ (key header : Bytes) (stretch : ℕ) where
   pub sealing-fits : (text out n : ℕ) → n ≡ settledSealing key header stretch text out → n ≡ 0 → Fits text out
   unfolding settledSealing
   sealing-fits text out n e z =
-      go (settledCommon key header stretch) (ltb longestSealed (text + stretch)) (ltb out (text + stretch)) refl refl refl (sym e ∙ z)
-    where
-      go : (m : ℕ) (c d : Bool) → settledCommon key header stretch ≡ m → ltb longestSealed (text + stretch) ≡ c → ltb out (text + stretch) ≡ d
-          → first m (room c d) ≡ 0 → Fits text out
-      go (suc m) c d s p q f = absurd (omega (arith, sym (first-other (suc m) (room c d) (λ z. omega (arith, z))) ∙ f))
-      go zero true d s p q f = absurd (omega (arith, f))
-      go zero false true s p q f = absurd (omega (arith, f))
-      go zero false false s p q f = record { common = passed s; within = ltb-false longestSealed (text + stretch) p; has-room = ltb-false out (text + stretch) q }
+      let all = all-passed (sealing-tests text out) (omega arith, (omega arith, tt)) n e z in
+      record {
+        common = all .0;
+        within = ltb-false longestSealed (text + stretch) (all .1 .0);
+        has-room = ltb-false out (text + stretch) (all .1 .1 .0);
+      }
 
   -- ---- Opening
 
-  abbrev rooms : Bool → Bool → Bool → ℕ
-  rooms c d e = if c then 4 else if d then 5 else if e then 6 else 0
+  -- tests 4, 5 and 6 by what they found
+  abbrev opening-later : Bool → Bool → Bool → List Test
+  opening-later c d e = test 4 c ∷ test 5 d ∷ test 6 e ∷ []
+
+  -- for a sealed string and an output of so many bytes
+  abbrev opening-tests : ℕ → ℕ → List Test
+  opening-tests sealed out = opening-later (ltb longestSealed sealed) (ltb sealed stretch) (ltb out sealed)
 
   pub opening-then : (sealed out n : ℕ) (c d f : Bool) → n ≡ settledCommon key header stretch → n ≡ 0
-      → ltb longestSealed sealed ≡ c → ltb sealed stretch ≡ d → ltb out sealed ≡ f → rooms c d f ≡ settledOpening key header stretch sealed out
+      → ltb longestSealed sealed ≡ c → ltb sealed stretch ≡ d → ltb out sealed ≡ f → (if c then 4 else if d then 5 else if f then 6 else 0) ≡ settledOpening key header stretch sealed out
   unfolding settledOpening
   opening-then sealed out n c d f e z p q r =
-      (λ i. rooms (sym p i) (sym q i) (sym r i)) ∙ sym (first-none (settledCommon key header stretch) _ (sym e ∙ z))
+      then-later (opening-later c d f) n e z ∙ (λ i. first (settledCommon key header stretch) (settles (opening-later (sym p i) (sym q i) (sym r i))))
 
-  pub opening-first : (sealed out n : ℕ) → n ≡ settledCommon key header stretch → (n ≡ 0 → ⊥) → n ≡ settledOpening key header stretch sealed out
-  unfolding settledOpening
-  opening-first sealed out n e f = e ∙ sym (first-other (settledCommon key header stretch) _ (λ z. f (e ∙ z)))
+  module _ (sealed out : Bytes) where
+    opened-with : Option (List Bytes) → Outcome
+    opened-with none = refused 3 out
+    opened-with (some strings) = opened (decrypt (E (keyOf key)) strings stretch sealed) stretch (length sealed) out
 
-  opened-with : Option (List Bytes) → Bytes → Bytes → Outcome
-  opened-with none sealed out = refused 3 out
-  opened-with (some strings) sealed out = opened (decrypt (E (keyOf key)) strings stretch sealed) stretch (length sealed) out
+    opening-door : Door (opening-tests (length sealed) (length out)) (settledOpening key header stretch (length sealed) (length out)) opened-with out
+        (opening key header stretch sealed out)
+    unfolding opening openUnder settledOpening opened-with
+    opening-door = record { settled = refl; is-call = under-header (opening-tests (length sealed) (length out)) (λ o. openUnder o key stretch sealed out) opened-with out by }
+      where
+        by : (o : Option (List Bytes))
+            → openUnder o key stretch sealed out ≡ (if unreadable o then refused 3 out else call (opening-tests (length sealed) (length out)) (opened-with o) out)
+        by none = refl
+        by (some ss) = refl
 
-  opening-numbered : (sealed out : Bytes)
-      → opening key header stretch sealed out ≡ numbered (settledOpening key header stretch (length sealed) (length out)) (opened-with (readHeader header) sealed out) out
-  unfolding opening openUnder settledOpening settledCommon opened-with
-  opening-numbered sealed out =
-      go (eqb (length key) 48) (ltb longestStretch stretch) (readHeader header) (ltb longestSealed (length sealed)) (ltb (length sealed) stretch) (ltb (length out) (length sealed)) refl refl refl
-    where
-      go : (a b : Bool) (o : Option (List Bytes)) (c d e : Bool) → ltb longestSealed (length sealed) ≡ c → ltb (length sealed) stretch ≡ d → ltb (length out) (length sealed) ≡ e
-          → (if not a then refused 1 out else if b then refused 2 out else openUnder o key stretch sealed out)
-          ≡ numbered (first (if not a then 1 else if b then 2 else unread o) (rooms c d e)) (opened-with o sealed out) out
-      go false b o c d e p q r = refl
-      go true true o c d e p q r = refl
-      go true false none c d e p q r = refl
-      go true false (some ss) c d e p q r =
-          (λ i. if p i then refused 4 out else if q i then refused 5 out else if r i then refused 6 out else opened-with (some ss) sealed out) ∙ by c d e
-        where
-          by : (c d e : Bool) → (if c then refused 4 out else if d then refused 5 out else if e then refused 6 out else opened-with (some ss) sealed out) ≡ numbered (first 0 (rooms c d e)) (opened-with (some ss) sealed out) out
-          by true d e = refl
-          by false true e = refl
-          by false false true = refl
-          by false false false = refl
+    pub opening-refused : (n : ℕ) → n ≡ settledOpening key header stretch (length sealed) (length out) → (n ≡ 0 → ⊥) → opening key header stretch sealed out ≡ refused n out
+    opening-refused = door-refused opening-door
 
-  pub opening-refused : (sealed out : Bytes) (n : ℕ) → n ≡ settledOpening key header stretch (length sealed) (length out) → (n ≡ 0 → ⊥)
-      → opening key header stretch sealed out ≡ refused n out
-  opening-refused sealed out n e f =
-      opening-numbered sealed out
-      ∙ ap (λ (m : ℕ). numbered m (opened-with (readHeader header) sealed out) out) (sym e)
-      ∙ numbered-other n (opened-with (readHeader header) sealed out) out f
+    pub opening-opened : (n : ℕ) (strings : List Bytes) → n ≡ settledOpening key header stretch (length sealed) (length out) → n ≡ 0
+        → readHeader header ≡ some strings → opening key header stretch sealed out ≡ opened (decrypt (E (keyOf key)) strings stretch sealed) stretch (length sealed) out
+    unfolding opened-with
+    opening-opened = door-done opening-door (omega arith, (omega arith, (omega arith, tt)))
 
-  pub opening-opened : (sealed out : Bytes) (n : ℕ) (strings : List Bytes) → n ≡ settledOpening key header stretch (length sealed) (length out) → n ≡ 0
-      → readHeader header ≡ some strings → opening key header stretch sealed out ≡ opened (decrypt (E (keyOf key)) strings stretch sealed) stretch (length sealed) out
-  unfolding opened-with
-  opening-opened sealed out n strings e z r =
-      opening-numbered sealed out
-      ∙ (λ i. numbered (sym e i) (opened-with (r i) sealed out) out)
-      ∙ numbered-0 n (opened-with (some strings) sealed out) out z
+    -- what the refusals 1 to 6 have, and what is done, opening has
+    pub opening-in : (P : Outcome → Type 0) → P (refused 1 out) → P (refused 2 out) → P (refused 3 out) → P (refused 4 out) → P (refused 5 out) → P (refused 6 out)
+        → ((strings : List Bytes) → P (opened (decrypt (E (keyOf key)) strings stretch sealed) stretch (length sealed) out)) → P (opening key header stretch sealed out)
+    unfolding opened-with
+    opening-in P p1 p2 p3 p4 p5 p6 h = door-in opening-door P (p1, (p2, (p3, (p4, (p5, (p6, tt)))))) by
+      where
+        by : (o : Option (List Bytes)) → P (opened-with o)
+        by none = p3
+        by (some strings) = h strings
 
   pub record Openable (sealed out : ℕ) : Type 0 where
     pub common : Passed
@@ -192,28 +296,16 @@ module _ (key header : Bytes) (stretch : ℕ) where
   pub opening-fits : (sealed out n : ℕ) → n ≡ settledOpening key header stretch sealed out → n ≡ 0 → Openable sealed out
   unfolding settledOpening
   opening-fits sealed out n e z =
-      go (settledCommon key header stretch) (ltb longestSealed sealed) (ltb sealed stretch) (ltb out sealed) refl refl refl refl (sym e ∙ z)
-    where
-      go : (m : ℕ) (c d f : Bool) → settledCommon key header stretch ≡ m → ltb longestSealed sealed ≡ c → ltb sealed stretch ≡ d → ltb out sealed ≡ f
-          → first m (rooms c d f) ≡ 0 → Openable sealed out
-      go (suc m) c d f s p q r e = absurd (omega (arith, sym (first-other (suc m) (rooms c d f) (λ z. omega (arith, z))) ∙ e))
-      go zero true d f s p q r e = absurd (omega (arith, e))
-      go zero false true f s p q r e = absurd (omega (arith, e))
-      go zero false false true s p q r e = absurd (omega (arith, e))
-      go zero false false false s p q r e =
-          record { common = passed s; within = ltb-false longestSealed sealed p; least = ltb-false sealed stretch q; has-room = ltb-false out sealed r }
+      let all = all-passed (opening-tests sealed out) (omega arith, (omega arith, (omega arith, tt))) n e z in
+      record {
+        common = all .0;
+        within = ltb-false longestSealed sealed (all .1 .0);
+        least = ltb-false sealed stretch (all .1 .1 .0);
+        has-room = ltb-false out sealed (all .1 .1 .1 .0);
+      }
 
   -- 7 is none of the tests' numbers
   pub opening-most : (sealed out : ℕ) → settledOpening key header stretch sealed out ≤ 6
-  unfolding settledOpening settledCommon
+  unfolding settledOpening
   opening-most sealed out =
-      go (eqb (length key) 48) (ltb longestStretch stretch) (readHeader header) (ltb longestSealed sealed) (ltb sealed stretch) (ltb out sealed)
-    where
-      go : (a b : Bool) (o : Option (List Bytes)) (c d e : Bool) → first (if not a then 1 else if b then 2 else unread o) (rooms c d e) ≤ 6
-      go false b o c d e = omega arith
-      go true true o c d e = omega arith
-      go true false none c d e = omega arith
-      go true false (some ss) true d e = omega arith
-      go true false (some ss) false true e = omega arith
-      go true false (some ss) false false true = omega arith
-      go true false (some ss) false false false = omega arith
+      number-in (opening-tests sealed out) (λ n. n ≤ 6) (omega arith) (omega arith, (omega arith, (omega arith, (omega arith, (omega arith, (omega arith, tt))))))

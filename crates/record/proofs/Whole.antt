@@ -4,14 +4,16 @@ use mathlib.Core.List.{List, _++_}
 use mathlib.Core.Option.{Option, none, some}
 use mathlib.Core.Path.{_≡_, refl, ap, sym, _∙_}
 use Prim.Native.Nat.{ℕ, _+_, _-_, _*_, _≤_}
+use native.Mathlib.Nat.{sub-zero}
 use native.Mathlib.Omega.{arith}
 use borrow.Author.Tests.{le-ltb}
-use lib.ListN.{length, drop, replicate, length-append, length-replicate}
+use lib.ListN.{length, take, drop, replicate, length-append, length-replicate}
+use lib.Seq.{length-take-le}
 use Rattle.paper.specs.Strings.{Bytes, if_then_else_}
 use Rattle.paper.specs.Figure6 as figure6
 use Rattle.paper.specs.Figure6.{BlockFunction, keyOf, E, AEZ-prf}
 use Rattle.paper.specs.Figure5.{delta, encrypt, decrypt, unpadded}
-use Rattle.paper.specs.Document01.{readHeader, sealing, opened, opening}
+use Rattle.paper.specs.Document01.{Outcome, readHeader, sealing, opened, opening}
 use Rattle.answer.specs.Outcomes.{outcome}
 use Rattle.hash.specs.Delta.{deltaOf}
 use Rattle.record.specs.Settled.{settledSealing, settledOpening}
@@ -28,36 +30,53 @@ decrypt-under : (f : BlockFunction) (NA : List Bytes) (t : ℕ) (C : Bytes) → 
 unfolding decrypt decryptUnder AEZ-prf unpadded
 decrypt-under f NA t C h = ap (λ (b : Bool). if b then none else decryptUnder f (delta f NA t) t C) (le-ltb (length C) t h)
 
--- ---- The doors
+-- ---- The output, of which the first bytes are lent
 
-module _ (key header out : Bytes) (t n : ℕ) (K : figure6.Key) (key-is : K ≡ keyOf key) (bits : ℕ) (bits-are : bits ≡ 8 * t)
+abbrev lent : Bytes → ℕ → Bytes
+lent out size = take (size - 0) out
+
+pub lent-long : (out : Bytes) (size : ℕ) → size ≤ length out → length (lent out size) ≡ size
+lent-long out size h = ap (λ (k : ℕ). length (take k out)) (sub-zero size) ∙ length-take-le size out h
+
+-- they came back as w, which is C
+back : (out w C : Bytes) (size : ℕ) → size ≤ length out → length w ≡ length (lent out size) → w ≡ C → w ++ drop (size - 0) out ≡ C ++ drop (length C) out
+back out w C size h kept is =
+    let all : size - 0 ≡ length C = sub-zero size ∙ sym (lent-long out size h) ∙ sym kept ∙ ap length is in
+    λ i. is i ++ drop (all i) out
+
+-- ---- The doors: w is what the cipher left in the bytes that it was lent
+
+module _ (key header out w : Bytes) (t : ℕ) (K : figure6.Key) (key-is : K ≡ keyOf key) (bits : ℕ) (bits-are : bits ≡ 8 * t)
     (Δ : Bytes) (hashed : Δ ≡ deltaOf (E K) bits (readHeader header)) where
   -- Δ of the header's strings
   delta-is : (strings : List Bytes) → readHeader header ≡ some strings → Δ ≡ delta (E (keyOf key)) strings t
   delta-is strings r = hashed ∙ (λ i. deltaOf (E (key-is i)) (bits-are i) (r i))
 
-  pub seals : (text w last : Bytes) (size m : ℕ) → n ≡ settledSealing key header t (length text) (length out) → n ≡ 0
-      → size ≡ length text + t → m ≡ t → w ≡ encryptUnder (E K) Δ m text → length w ≡ size → last ≡ w ++ drop size out
-      → outcome (record { number = n; length = size }) last ≡ sealing key header t text out
-  seals text w last size m e z s g q long l =
+  pub seals : (text : Bytes) (n : ℕ) → n ≡ settledSealing key header t (length text) (length out) → n ≡ 0
+      → w ≡ encryptUnder (E K) Δ (length (lent out (length text + t)) - length text) text → length w ≡ length (lent out (length text + t))
+      → outcome (record { number = n; length = length text + t }) (w ++ drop (length text + t - 0) out) ≡ sealing key header t text out
+  seals text n e z q kept =
       let fits = sealing-fits key header t (length text) (length out) n e z in
       let strings = fits .common .strings in
       let C : Bytes = encrypt (E (keyOf key)) strings t text in
+      let stretch : length (lent out (length text + t)) - length text ≡ t = omega (arith, lent-long out (length text + t) (fits .has-room)) in
       let is : w ≡ C =
-      q ∙ (λ i. encryptUnder (E (key-is i)) (delta-is strings (fits .common .reads) i) (g i) text) ∙ sym (encrypt-under (E (keyOf key)) strings t text) in
-      let whole : last ≡ C ++ drop (length C) out = l ∙ (λ i. is i ++ drop ((sym long ∙ ap length is) i) out) in
-      (λ i. record { number = z i; size = s i; output = whole i })
+      q ∙ (λ i. encryptUnder (E (key-is i)) (delta-is strings (fits .common .reads) i) (stretch i) text) ∙ sym (encrypt-under (E (keyOf key)) strings t text) in
+      let whole : w ++ drop (length text + t - 0) out ≡ C ++ drop (length C) out = back out w C (length text + t) (fits .has-room) kept is in
+      (λ i. record { number = z i; size = length text + t; output = whole i })
       ∙ sym (sealing-done key header t text out n strings e z (fits .common .reads))
 
-  module _ (sealed w last : Bytes) (r : Bool) (e : n ≡ settledOpening key header t (length sealed) (length out)) (z : n ≡ 0)
-      (answer : r ≡ opens (decryptUnder (E K) Δ t sealed)) (q : w ≡ leaves (decryptUnder (E K) Δ t sealed) t (length sealed))
-      (long : length w ≡ length sealed) (l : last ≡ w ++ drop (length sealed) out) where
-    -- what the string opens to, by the definition
-    text : Option Bytes
-    text = decryptUnder (E K) Δ t sealed
+  module _ (sealed : Bytes) (n : ℕ) (e : n ≡ settledOpening key header t (length sealed) (length out)) (z : n ≡ 0) (r : Bool)
+      (told : r ≡ opens (decryptUnder (E K) Δ t sealed)) (q : w ≡ leaves (decryptUnder (E K) Δ t sealed) t (length sealed))
+      (kept : length w ≡ length (lent out (length sealed))) where
+    -- what is returned and left, by whether the check held
+    abbrev left : Bool → Outcome
+    left b = record { number = if b then 0 else 7; size = if b then length sealed - t else 0; output = w ++ drop (length sealed - 0) out }
 
-    by-definition : opening key header t sealed out ≡ opened text t (length sealed) out
-    unfolding text
+    room : length sealed ≤ length out
+    room = opening-fits key header t (length sealed) (length out) n e z .has-room
+
+    by-definition : opening key header t sealed out ≡ opened (decryptUnder (E K) Δ t sealed) t (length sealed) out
     by-definition =
         let fits = opening-fits key header t (length sealed) (length out) n e z in
         let strings = fits .common .strings in
@@ -66,31 +85,17 @@ module _ (key header out : Bytes) (t n : ℕ) (K : figure6.Key) (key-is : K ≡ 
         (decrypt-under (E (keyOf key)) strings t sealed (fits .least)
         ∙ sym (λ i. decryptUnder (E (key-is i)) (delta-is strings (fits .common .reads) i) t sealed))
 
-    left : w ≡ leaves text t (length sealed)
-    unfolding text
-    left = q
-
-    told : opens text ≡ r
-    unfolding text
-    told = sym answer
-
-    pub opens-right : r ≡ true → outcome (record { number = 0; length = length sealed - t }) last ≡ opening key header t sealed out
+    pub opens-by : (b : Bool) → r ≡ b → left b ≡ opening key header t sealed out
     unfolding opened
-    opens-right holds = go text (told ∙ holds) left ∙ sym by-definition
+    opens-by b found = go b (decryptUnder (E K) Δ t sealed) (sym told ∙ found) q ∙ sym by-definition
       where
-        go : (o : Option Bytes) → opens o ≡ true → w ≡ leaves o t (length sealed)
-            → outcome (record { number = 0; length = length sealed - t }) last ≡ opened o t (length sealed) out
-        go none p h = cc
-        go (some M) p h =
-            let both : length sealed ≡ length M + t = sym long ∙ ap length h ∙ length-append M (replicate t 0) ∙ ap (λ (k : ℕ). length M + k) (length-replicate t 0) in
-            let size : length sealed - t ≡ length M = omega (arith, both) in
-            let whole : last ≡ M ++ replicate t 0 ++ drop (length (M ++ replicate t 0)) out = l ∙ (λ i. h i ++ drop ((sym long ∙ ap length h) i) out) in
+        go : (b : Bool) (o : Option Bytes) → opens o ≡ b → w ≡ leaves o t (length sealed)
+            → left b ≡ opened o t (length sealed) out
+        go true none p h = cc
+        go false (some M) p h = cc
+        go false none p h = λ i. record { number = 7; size = 0; output = h i ++ drop (sub-zero (length sealed) i) out }
+        go true (some M) p h =
+            let long : length w ≡ length sealed = kept ∙ lent-long out (length sealed) room in
+            let size : length sealed - t ≡ length M = omega (arith, long, ap length h, length-append M (replicate t 0), length-replicate {A = ℕ} t 0) in
+            let whole : w ++ drop (length sealed - 0) out ≡ M ++ replicate t 0 ++ drop (length (M ++ replicate t 0)) out = back out w (M ++ replicate t 0) (length sealed) room kept h in
             λ i. record { number = 0; size = size i; output = whole i }
-
-    pub opens-wrong : r ≡ false → outcome (record { number = 7; length = 0 }) last ≡ opening key header t sealed out
-    unfolding opened
-    opens-wrong fails = go text (told ∙ fails) left ∙ sym by-definition
-      where
-        go : (o : Option Bytes) → opens o ≡ false → w ≡ leaves o t (length sealed) → outcome (record { number = 7; length = 0 }) last ≡ opened o t (length sealed) out
-        go none p h = ap (λ (u : Bytes). outcome (record { number = 7; length = 0 }) u) (l ∙ ap (λ (u : Bytes). u ++ drop (length sealed) out) h)
-        go (some M) p h = cc

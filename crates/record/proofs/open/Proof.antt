@@ -1,41 +1,82 @@
 -- `record::open` meets its contract.
+use mathlib.Core.Bool.{Bool, true, false}
 use mathlib.Core.List.{_++_}
-use mathlib.Core.Path.{_≡_, ap, sym, _∙_}
+use mathlib.Core.Path.{_≡_, sym}
 use Prim.Native.Nat.{ℕ, _-_}
-use native.Mathlib.Nat.{sub-zero}
 use native.Mathlib.Omega.{arith}
 use borrow.Author.Needs.{needs}
-use lib.ListN.{length, take, drop}
-use lib.Seq.{length-take-le}
-use Rattle.paper.specs.Strings.{Bytes}
+use lib.ListN.{length, drop}
+use Rattle.paper.specs.Strings.{Bytes, if_then_else_}
+use Rattle.paper.specs.Document01.{Outcome, opening}
 use Rattle.tbc.specs.Meaning.{blocks}
-use Rattle.record.proofs.Settles.{opening-fits, opening-refused}
-use Rattle.record.proofs.Whole.{opens-right, opens-wrong}
+use Rattle.record.proofs.Settles.{Openable, opening-fits, opening-refused}
+use Rattle.record.proofs.Whole.{lent-long, opens-by}
 use Rattle.record.proofs.open.Statement.{statement}
 use Rattle.record.proofs.open.Tie as tie
+
+abbrev start : tie.After-settled-opening → tie.Start
+start c = c .before .before .before .before .before
+
+abbrev key : tie.After-settled-opening → Bytes
+key c = start c .args .key .now
+
+abbrev header : tie.After-settled-opening → Bytes
+header c = start c .args .header .now
+
+abbrev t : tie.After-settled-opening → ℕ
+t c = start c .args .stretch .0
+
+abbrev sealed : tie.After-settled-opening → Bytes
+sealed c = start c .args .sealed .now
+
+abbrev out : tie.After-settled-opening → Bytes
+out c = start c .args .out .now
+
+-- once answers 1 to 6 are settled: each call, from the one after it
+abbrev settled : tie.After-delta → tie.Else1
+settled c = c .before .before .before
+
+abbrev keyed : tie.After-decrypt → tie.After-delta
+keyed c = c .before .before
+
+abbrev entry : tie.After-decrypt → tie.After-settled-opening
+entry c = settled (keyed c) .before
+
+fits : (c : tie.Else1) → let s = c .before in Openable (key s) (header s) (t s) (length (sealed s)) (length (out s))
+fits c =
+    let s = c .before in
+    opening-fits (key s) (header s) (t s) (length (sealed s)) (length (out s)) (s .settled-opening .result) (s .settled-opening .ensures) (c .if1 .left)
+
+-- the answer and the output, by whether the check held
+abbrev Left : tie.After-decrypt → Bool → Outcome
+Left c b = let s = entry c in record {
+  number = if b then 0 else 7;
+  size = if b then length (sealed s) - t s else 0;
+  output = c .decrypt .last .1 .1 .1 .1 .0 ++ drop (length (sealed s) - 0) (out s);
+}
+
+answers : (c : tie.After-decrypt) (b : Bool) → c .decrypt .result ≡ b → let s = entry c in Left c b ≡ opening (key s) (header s) (t s) (sealed s) (out s)
+answers w b is =
+    let d = keyed w in
+    let e = settled d in
+    let s = e .before in
+    let k = d .before .before .key-of in
+    opens-by (key s) (header s) (out s) (w .decrypt .last .1 .1 .1 .1 .0) (t s) (blocks (k .result)) (k .ensures) (d .before .bits .result .0) (d .before .bits .ensures) (d .delta .result) (d .delta .ensures)
+    (sealed s) (s .settled-opening .result) (s .settled-opening .ensures) (e .if1 .left) (w .decrypt .result) (w .decrypt .ensures .0) (w .decrypt .ensures .1) (w .decrypt .kept .1 .1 .1 .1 .0) b is
 
 settled-opening-requires : tie.Need-settled-opening-requires
 settled-opening-requires c κs = search needs
 
 returns : tie.Need-returns
 returns c =
-    let a = c .before .before .before .before .before .before .args in
-    let n = c .before .settled-opening in
-    sym (opening-refused (a .key .now) (a .header .now) (a .stretch .0) (a .sealed .now) (a .out .now) (n .result) (n .ensures) (c .if1 .taken))
+    let s = c .before in
+    sym (opening-refused (key s) (header s) (t s) (sealed s) (out s) (s .settled-opening .result) (s .settled-opening .ensures) (c .if1 .taken))
 
 key-of-requires : tie.Need-key-of-requires
-key-of-requires c κs =
-    let a = c .before .before .before .before .before .before .args in
-    let n = c .before .settled-opening in
-    let fits = opening-fits (a .key .now) (a .header .now) (a .stretch .0) (length (a .sealed .now)) (length (a .out .now)) (n .result) (n .ensures) (c .if1 .left) in
-    fits .common .key-long
+key-of-requires c κs = fits c .common .key-long
 
 bits-requires : tie.Need-bits-requires
-bits-requires c κs =
-    let a = c .before .before .before .before .before .before .before .args in
-    let n = c .before .before .settled-opening in
-    let fits = opening-fits (a .key .now) (a .header .now) (a .stretch .0) (length (a .sealed .now)) (length (a .out .now)) (n .result) (n .ensures) (c .before .if1 .left) in
-    fits .common .short
+bits-requires c κs = fits (c .before) .common .short
 
 delta-requires : tie.Need-delta-requires
 delta-requires c κs = search needs
@@ -47,57 +88,29 @@ part-decrypt-start : tie.Need-part-decrypt-start
 part-decrypt-start c = search needs
 
 part-decrypt-end : tie.Need-part-decrypt-end
-part-decrypt-end c =
-    let a = c .before .before .before .before .before .before .before .before .before .args in
-    let n = c .before .before .before .before .settled-opening in
-    let fits = opening-fits (a .key .now) (a .header .now) (a .stretch .0) (length (a .sealed .now)) (length (a .out .now)) (n .result) (n .ensures) (c .before .before .before .if1 .left) in
-    fits .has-room
+part-decrypt-end c = fits (settled c) .has-room
 
 decrypt-requires : tie.Need-decrypt-requires
 decrypt-requires c κs =
-    let a = c .before .before .before .before .before .before .before .before .before .before .args in
-    let n = c .before .before .before .before .before .settled-opening in
-    let fits = opening-fits (a .key .now) (a .header .now) (a .stretch .0) (length (a .sealed .now)) (length (a .out .now)) (n .result) (n .ensures) (c .before .before .before .before .if1 .left) in
-    let size : ℕ = length (a .sealed .now) in
-    let long : length (take (size - 0) (a .out .now)) ≡ size = ap (λ (k : ℕ). length (take k (a .out .now))) (sub-zero size) ∙ length-take-le size (a .out .now) (fits .has-room) in
-    (sym long, omega (arith, long, fits .within), omega (arith, long, fits .least), fits .common .short)
+    let e = settled (c .before) in
+    let s = e .before in
+    let long = lent-long (out s) (length (sealed s)) (fits e .has-room) in
+    (sym long, omega (arith, long, fits e .within), omega (arith, long, fits e .least), fits e .common .short)
 
 sub-t19 : tie.Need-sub-t19
-sub-t19 c =
-    let a = c .before .before .before .before .before .before .before .before .before .before .before .before .before .before .args in
-    let n = c .before .before .before .before .before .before .before .before .before .settled-opening in
-    let fits = opening-fits (a .key .now) (a .header .now) (a .stretch .0) (length (a .sealed .now)) (length (a .out .now)) (n .result) (n .ensures) (c .before .before .before .before .before .before .before .before .if1 .left) in
-    omega (arith, fits .least)
+sub-t19 c = omega (arith, fits (settled (keyed (c .before .before .before))) .least)
 
 same-length : tie.Need-same-length
 same-length c = search needs
 
 returns-2 : tie.Need-returns-2
-returns-2 c =
-    let a = c .before .before .before .before .before .before .before .before .before .before .before .before .before .before .args in
-    let n = c .before .before .before .before .before .before .before .before .before .settled-opening in
-    let fits = opening-fits (a .key .now) (a .header .now) (a .stretch .0) (length (a .sealed .now)) (length (a .out .now)) (n .result) (n .ensures) (c .before .before .before .before .before .before .before .before .if1 .left) in
-    let size : ℕ = length (a .sealed .now) in
-    let long : length (take (size - 0) (a .out .now)) ≡ size = ap (λ (k : ℕ). length (take k (a .out .now))) (sub-zero size) ∙ length-take-le size (a .out .now) (fits .has-room) in
-    let w : Bytes = c .before .before .before .decrypt .last .1 .1 .1 .1 .0 in
-    let all : w ++ drop (size - 0) (a .out .now) ≡ w ++ drop size (a .out .now) = ap (λ (k : ℕ). w ++ drop k (a .out .now)) (sub-zero size) in
-    opens-right (a .key .now) (a .header .now) (a .out .now) (a .stretch .0) (n .result) (blocks (c .before .before .before .before .before .before .before .key-of .result)) (c .before .before .before .before .before .before .before .key-of .ensures) (c .before .before .before .before .before .before .bits .result .0) (c .before .before .before .before .before .before .bits .ensures) (c .before .before .before .before .before .delta .result) (c .before .before .before .before .before .delta .ensures)
-    (a .sealed .now) w (w ++ drop (size - 0) (a .out .now)) (c .before .before .before .decrypt .result) (n .ensures) (c .before .before .before .before .before .before .before .before .if1 .left) (c .before .before .before .decrypt .ensures .0) (c .before .before .before .decrypt .ensures .1) (c .before .before .before .decrypt .kept .1 .1 .1 .1 .0 ∙ long) all (c .if2 .taken)
+returns-2 c = answers (c .before .before .before) true (c .if2 .taken)
 
 same-length-2 : tie.Need-same-length-2
 same-length-2 c = search needs
 
 returns-3 : tie.Need-returns-3
-returns-3 c =
-    let a = c .before .before .before .before .before .before .before .before .before .before .before .before .before .before .args in
-    let n = c .before .before .before .before .before .before .before .before .before .settled-opening in
-    let fits = opening-fits (a .key .now) (a .header .now) (a .stretch .0) (length (a .sealed .now)) (length (a .out .now)) (n .result) (n .ensures) (c .before .before .before .before .before .before .before .before .if1 .left) in
-    let size : ℕ = length (a .sealed .now) in
-    let long : length (take (size - 0) (a .out .now)) ≡ size = ap (λ (k : ℕ). length (take k (a .out .now))) (sub-zero size) ∙ length-take-le size (a .out .now) (fits .has-room) in
-    let w : Bytes = c .before .before .before .decrypt .last .1 .1 .1 .1 .0 in
-    let all : w ++ drop (size - 0) (a .out .now) ≡ w ++ drop size (a .out .now) = ap (λ (k : ℕ). w ++ drop k (a .out .now)) (sub-zero size) in
-    opens-wrong (a .key .now) (a .header .now) (a .out .now) (a .stretch .0) (n .result) (blocks (c .before .before .before .before .before .before .before .key-of .result)) (c .before .before .before .before .before .before .before .key-of .ensures) (c .before .before .before .before .before .before .bits .result .0) (c .before .before .before .before .before .before .bits .ensures) (c .before .before .before .before .before .delta .result) (c .before .before .before .before .before .delta .ensures)
-    (a .sealed .now) w (w ++ drop (size - 0) (a .out .now)) (c .before .before .before .decrypt .result) (n .ensures) (c .before .before .before .before .before .before .before .before .if1 .left) (c .before .before .before .decrypt .ensures .0) (c .before .before .before .decrypt .ensures .1) (c .before .before .before .decrypt .kept .1 .1 .1 .1 .0 ∙ long) all (c .if2 .left)
+returns-3 c = answers (c .before .before .before) false (c .if2 .left)
 
 pub open-spec : {M : Type 1} → statement M
 open-spec =

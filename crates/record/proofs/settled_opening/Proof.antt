@@ -1,44 +1,65 @@
 -- `record::settled_opening` meets its contract.
-use mathlib.Core.Bool.{true, false}
-use mathlib.Core.Path.{refl}
+use mathlib.Core.Bool.{Bool, true, false}
+use mathlib.Core.Path.{_≡_, refl}
+use Prim.Native.Nat.{ℕ}
 use borrow.Author.Needs.{needs}
 use borrow.Author.Tests.{lt-ltb, le-ltb}
 use lib.Dec.{ltb}
-use Rattle.record.proofs.Settles.{opening-first, opening-then}
+use Rattle.paper.specs.Strings.{if_then_else_}
+use Rattle.paper.specs.Document01.{longestSealed}
+use Rattle.record.specs.Settled.{settledCommon, settledOpening}
+use Rattle.record.proofs.Settles.{first-is, opening-then}
 use Rattle.record.proofs.settled_opening.Statement.{statement}
 use Rattle.record.proofs.settled_opening.Tie as tie
+
+abbrev start : tie.After-settled → tie.Start
+start c = c .before .before .before
+
+abbrev t : tie.After-settled → ℕ
+t c = start c .args .stretch .0
+
+abbrev sealed : tie.After-settled → ℕ
+sealed c = start c .args .sealed
+
+abbrev room : tie.After-settled → ℕ
+room c = start c .args .room
+
+-- past the common tests: the number by what the others found
+later : (c : tie.Else1) (b d f : Bool) → let s = c .before in ltb longestSealed (sealed s) ≡ b → ltb (sealed s) (t s) ≡ d → ltb (room s) (sealed s) ≡ f
+    → (if b then 4 else if d then 5 else if f then 6 else 0) ≡ settledOpening (start s .args .key .now) (start s .args .header .now) (t s) (sealed s) (room s)
+later c b d f =
+    let s = c .before in
+    let a = start s .args in
+    opening-then (a .key .now) (a .header .now) (t s) (sealed s) (room s) (s .settled .result) b d f (s .settled .ensures) (c .if1 .left)
 
 settled-requires : tie.Need-settled-requires
 settled-requires c κs = search needs
 
 returns : tie.Need-returns
+unfolding settledOpening
 returns c =
-    let a = c .before .before .before .before .args in
-    opening-first (a .key .now) (a .header .now) (a .stretch .0) (a .sealed) (a .room) (c .before .settled .result) (c .before .settled .ensures) (c .if1 .taken)
+    let s = c .before in
+    first-is (settledCommon (start s .args .key .now) (start s .args .header .now) (t s)) _ (s .settled .result) (s .settled .ensures) (c .if1 .taken)
 
 returns-2 : tie.Need-returns-2
 returns-2 c =
-    let a = c .before .before .before .before .before .args in
-    let n = c .before .before .settled in
-    opening-then (a .key .now) (a .header .now) (a .stretch .0) (a .sealed) (a .room) (n .result) true (ltb (a .sealed) (a .stretch .0)) (ltb (a .room) (a .sealed)) (n .ensures) (c .before .if1 .left) (lt-ltb _ _ (c .if2 .taken)) refl refl
+    let s = c .before .before in
+    later (c .before) true (ltb (sealed s) (t s)) (ltb (room s) (sealed s)) (lt-ltb _ _ (c .if2 .taken)) refl refl
 
 returns-3 : tie.Need-returns-3
 returns-3 c =
-    let a = c .before .before .before .before .before .before .args in
-    let n = c .before .before .before .settled in
-    opening-then (a .key .now) (a .header .now) (a .stretch .0) (a .sealed) (a .room) (n .result) false true (ltb (a .room) (a .sealed)) (n .ensures) (c .before .before .if1 .left) (le-ltb _ _ (c .before .if2 .left)) (lt-ltb _ _ (c .if3 .taken)) refl
+    let s = c .before .before .before in
+    later (c .before .before) false true (ltb (room s) (sealed s)) (le-ltb _ _ (c .before .if2 .left)) (lt-ltb _ _ (c .if3 .taken)) refl
 
 returns-4 : tie.Need-returns-4
 returns-4 c =
-    let a = c .before .before .before .before .before .before .before .args in
-    let n = c .before .before .before .before .settled in
-    opening-then (a .key .now) (a .header .now) (a .stretch .0) (a .sealed) (a .room) (n .result) false false true (n .ensures) (c .before .before .before .if1 .left) (le-ltb _ _ (c .before .before .if2 .left)) (le-ltb _ _ (c .before .if3 .left)) (lt-ltb _ _ (c .if4 .taken))
+    let low = c .before in
+    later (low .before .before) false false true (le-ltb _ _ (low .before .if2 .left)) (le-ltb _ _ (low .if3 .left)) (lt-ltb _ _ (c .if4 .taken))
 
 returns-5 : tie.Need-returns-5
 returns-5 c =
-    let a = c .before .before .before .before .before .before .before .args in
-    let n = c .before .before .before .before .settled in
-    opening-then (a .key .now) (a .header .now) (a .stretch .0) (a .sealed) (a .room) (n .result) false false false (n .ensures) (c .before .before .before .if1 .left) (le-ltb _ _ (c .before .before .if2 .left)) (le-ltb _ _ (c .before .if3 .left)) (le-ltb _ _ (c .if4 .left))
+    let low = c .before in
+    later (low .before .before) false false false (le-ltb _ _ (low .before .if2 .left)) (le-ltb _ _ (low .if3 .left)) (le-ltb _ _ (c .if4 .left))
 
 pub settled-opening-spec : {M : Type 1} → statement M
 settled-opening-spec =
