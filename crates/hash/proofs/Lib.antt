@@ -1,3 +1,3 @@
 mod Rows
-mod Walked
+mod Summed
 mod Fitting

@@ -64,12 +64,12 @@ pub fn string_hash(k: tbc::Key, i: u32, t: &[u8]) -> [u8; 16]
     with_short(k, i, full, &t[at..n])
 }
 
-// Lines 300 to 307: Δ of the tweak that holds the stretch and the strings of a header, or zero for a header that does not read. Each string
-// is lent from where it begins in the header.
+// Lines 300 to 307: Δ of the tweak that holds the stretch and the strings of a header, or zero for a header that does not read. One walk
+// tests the entries and hashes their strings, each of which is lent from where it begins in the header.
 pub fn delta(k: tbc::Key, stretch: StretchBits, h: &[u8]) -> [u8; 16]
     ensures { λ r. ⌜ r ≡ deltaOf (E (blocks k)) (stretch .0) (readHeader (now (h .entry))) ⌝ }
 {
-    let Reading::Strings(count) = header::read(h) else {
+    let Reading::Strings(count) = header::count(h) else {
         return [0u8; 16];
     };
     let bits = block::number(stretch.0);
@@ -87,6 +87,9 @@ pub fn delta(k: tbc::Key, stretch: StretchBits, h: &[u8]) -> [u8; 16]
         at = end;
         i += 1;
         left -= 1;
+    }
+    if at != h.len() {
+        return [0u8; 16];
     }
     total
 }

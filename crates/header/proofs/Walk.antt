@@ -1,10 +1,10 @@
--- A walk over a header's entries and the definition that reads its strings: where an entry reads, the definition goes on after it, and
--- where it does not, neither does the definition.
+-- A walk over a header and the definition that reads its strings: what the definition gives is said by the count, by one entry, and by the
+-- end.
 use mathlib.Core.Bool.{Bool, true, false, _&&_}
-use mathlib.Core.List.{[], _∷_}
-use mathlib.Core.Option.{none, some}
+use mathlib.Core.List.{List, [], _∷_}
+use mathlib.Core.Option.{Option, none, some}
 use mathlib.Core.Path.{_≡_, refl, ap, sym, _∙_}
-use Prim.Native.Nat.{ℕ, suc, _+_, _-_, _≤_, _<_}
+use Prim.Native.Nat.{ℕ, zero, suc, _+_, _-_, _≤_, _<_}
 use native.Mathlib.Numerals.{add-one}
 use native.Mathlib.Omega.{arith}
 use borrow.Author.Tests.{ltb-true, ltb-false, le-leb, lt-leb}
@@ -13,21 +13,34 @@ use lib.ListN.{length, getD, take, drop, length-drop, drop-of-length-le}
 use lib.Seq.{drop-cons, drop-drop}
 use Rattle.paper.specs.Strings.{Bytes, if_then_else_}
 use Rattle.paper.specs.Document01.{mostStrings, longestString, inFront, readStrings, readHeader}
+use Rattle.header.specs.declared.Place.{Place}
 use Rattle.header.specs.declared.Place.the-variants.{At, Bad}
-use Rattle.header.specs.Places.{sizeAt, entryAt}
+use Rattle.header.specs.declared.Reading.{Reading}
+use Rattle.header.specs.declared.Reading.the-variants as answers
+use Rattle.header.specs.Places.{sizeAt, entryAt, countOf}
 
--- a choice by two tests, of which both hold, the first fails, or the second
-both : {A : Type 0} {a b : Bool} (x y : A) → a ≡ true → b ≡ true → (if a && b then x else y) ≡ x
-both x y p q = λ i. if p i && q i then x else y
+-- ---- The count
 
-not-first : {A : Type 0} {a : Bool} (b : Bool) (x y : A) → a ≡ false → (if a && b then x else y) ≡ y
-not-first b x y p = λ i. if p i && b then x else y
+-- what reads after a count
+abbrev pub afterCount : Bytes → Reading → Option (List Bytes)
+afterCount h answers.Bad = none
+afterCount h (answers.Strings n) = readStrings n (drop 1 h)
 
-not-second : {A : Type 0} (a : Bool) {b : Bool} (x y : A) → b ≡ false → (if a && b then x else y) ≡ y
-not-second true x y q = λ i. if q i then x else y
-not-second false x y q = refl
+pub count-reads : (h : Bytes) (r : Reading) → r ≡ countOf h → readHeader h ≡ afterCount h r
+unfolding readHeader countOf
+count-reads [] r e = ap (afterCount []) (sym e)
+count-reads (n ∷ h) r e = go (leb 1 n && leb n mostStrings) ∙ ap (afterCount (n ∷ h)) (sym e)
+  where
+    go : (b : Bool) → (if b then readStrings n h else none) ≡ afterCount (n ∷ h) (if b then answers.Strings n else answers.Bad)
+    go true = refl
+    go false = refl
 
 -- ---- One entry
+
+-- what reads from an entry on, with n strings after its own
+abbrev pub afterEntry : ℕ → Bytes → Place → Option (List Bytes)
+afterEntry n h Bad = none
+afterEntry n h (At start end) = inFront (take (end - start) (drop start h)) (readStrings n (drop end h))
 
 -- where two bytes are left, they stand in front of the rest
 two-bytes : (h : Bytes) (at : ℕ) → at + 2 ≤ length h → drop at h ≡ getD h at 0 ∷ getD h (at + 1) 0 ∷ drop (at + 2) h
@@ -45,98 +58,57 @@ few n [] p = refl
 few n (x ∷ []) p = refl
 few n (x ∷ y ∷ l) p = absurd (omega arith)
 
-module _ (n at : ℕ) (h : Bytes) (two : at + 2 ≤ length h) where
-  step : readStrings (suc n) (drop at h) ≡ (if leb (sizeAt h at) longestString && leb (sizeAt h at) (length (drop (at + 2) h)) then inFront (take (sizeAt h at) (drop (at + 2) h)) (readStrings n (drop (sizeAt h at) (drop (at + 2) h))) else none)
+module _ (n at : ℕ) (h : Bytes) where
+  abbrev size : ℕ
+  size = sizeAt h at
+
+  -- with two bytes left, by the definition's tests
+  by-tests : at + 2 ≤ length h → (a b : Bool) → leb size longestString ≡ a → leb size (length (drop (at + 2) h)) ≡ b
+      → readStrings (suc n) (drop at h) ≡ (if a && b then inFront (take size (drop (at + 2) h)) (readStrings n (drop size (drop (at + 2) h))) else none)
   unfolding readStrings
-  step = ap (readStrings (suc n)) (two-bytes h at two)
+  by-tests two a b p q =
+      ap (readStrings (suc n)) (two-bytes h at two)
+      ∙ (λ i. if p i && q i then inFront (take size (drop (at + 2) h)) (readStrings n (drop size (drop (at + 2) h))) else none)
 
-  step-whole : sizeAt h at ≤ longestString → at + 2 + sizeAt h at ≤ length h → readStrings (suc n) (drop at h) ≡ inFront (take (sizeAt h at) (drop (at + 2) h)) (readStrings n (drop (at + 2 + sizeAt h at) h))
-  step-whole p q =
-      step
-      ∙ both _ none (le-leb (sizeAt h at) longestString p) (le-leb (sizeAt h at) (length (drop (at + 2) h)) (omega (arith, length-drop (at + 2) h)))
-      ∙ ap (λ (l : Bytes). inFront (take (sizeAt h at) (drop (at + 2) h)) (readStrings n l)) (drop-drop (sizeAt h at) (at + 2) h)
+  reads : readStrings (suc n) (drop at h) ≡ afterEntry n h (entryAt h at)
+  unfolding entryAt
+  reads = go (ltb (length h) (at + 2)) refl (ltb longestString size) refl (ltb (length h) (at + 2 + size)) refl
+    where
+      rest : length (drop (at + 2) h) ≡ length h - (at + 2)
+      rest = length-drop (at + 2) h
 
-  step-long : longestString < sizeAt h at → readStrings (suc n) (drop at h) ≡ none
-  step-long p = step ∙ not-first (leb (sizeAt h at) (length (drop (at + 2) h))) _ none (lt-leb (sizeAt h at) longestString p)
+      go : (a : Bool) → ltb (length h) (at + 2) ≡ a → (b : Bool) → ltb longestString size ≡ b → (d : Bool) → ltb (length h) (at + 2 + size) ≡ d
+          → readStrings (suc n) (drop at h) ≡ afterEntry n h (if a then Bad else if b then Bad else if d then Bad else At (at + 2) (at + 2 + size))
+      go true p b q d r = few n (drop at h) (omega (arith, length-drop at h, ltb-true (length h) (at + 2) p))
+      go false p true q d r = by-tests (ltb-false (length h) (at + 2) p) false _ (lt-leb size longestString (ltb-true longestString size q)) refl
+      go false p false q true r =
+          by-tests (ltb-false (length h) (at + 2) p) true false (le-leb size longestString (ltb-false longestString size q))
+          (lt-leb size (length (drop (at + 2) h)) (omega (arith, rest, ltb-false (length h) (at + 2) p, ltb-true (length h) (at + 2 + size) r)))
+      go false p false q false r =
+          let own : size ≡ at + 2 + size - (at + 2) = omega arith in
+          by-tests (ltb-false (length h) (at + 2) p) true true (le-leb size longestString (ltb-false longestString size q))
+          (le-leb size (length (drop (at + 2) h)) (omega (arith, rest, ltb-false (length h) (at + 2 + size) r)))
+          ∙ (λ i. inFront (take (own i) (drop (at + 2) h)) (readStrings n (drop-drop size (at + 2) h i)))
 
-  step-past : length h < at + 2 + sizeAt h at → readStrings (suc n) (drop at h) ≡ none
-  step-past p = step ∙ not-second (leb (sizeAt h at) longestString) _ none (lt-leb (sizeAt h at) (length (drop (at + 2) h)) (omega (arith, length-drop (at + 2) h)))
+-- where strings are left, the definition goes on with the entry, whatever that is
+pub entry-reads : (left at : ℕ) (h : Bytes) (p : Place) → 0 < left → p ≡ entryAt h at → readStrings left (drop at h) ≡ afterEntry (left - 1) h p
+entry-reads zero at h p some-left e = absurd (omega arith)
+entry-reads (suc n) at h p some-left e =
+    let one : n ≡ suc n - 1 = omega arith in
+    reads n at h ∙ (λ i. afterEntry (one i) h (sym e i))
 
--- a place and no place are not equal
-apart : (start end : ℕ) → At start end ≡ Bad → ⊥
-apart start end e = let z : _≡_ {A = ℕ} 0 1 = cc in omega arith
+-- ---- The end: no string is left
 
--- where an entry reads, the definition goes on after it
-pub entry-reads : (n at : ℕ) (h : Bytes) (start end : ℕ) → entryAt h at ≡ At start end → readStrings (suc n) (drop at h) ≡ inFront (take (end - start) (drop start h)) (readStrings n (drop end h))
-unfolding entryAt
-entry-reads n at h start end e = go (ltb (length h) (at + 2)) refl (ltb longestString size) refl (ltb (length h) (at + 2 + size)) refl e
-  where
-    size : ℕ
-    size = sizeAt h at
+module _ (left at : ℕ) (h : Bytes) (none-left : left ≤ 0) where
+  abbrev last : left ≡ 0
+  last = omega arith
 
-    go : (a : Bool) → ltb (length h) (at + 2) ≡ a → (b : Bool) → ltb longestString size ≡ b → (d : Bool) → ltb (length h) (at + 2 + size) ≡ d
-        → (if a then Bad else if b then Bad else if d then Bad else At (at + 2) (at + 2 + size)) ≡ At start end
-        → readStrings (suc n) (drop at h) ≡ inFront (take (end - start) (drop start h)) (readStrings n (drop end h))
-    go true p b q d r e = absurd (apart start end (sym e))
-    go false p true q d r e = absurd (apart start end (sym e))
-    go false p false q true r e = absurd (apart start end (sym e))
-    go false p false q false r e =
-        let s : at + 2 ≡ start = cc in
-        let t : at + 2 + size ≡ end = cc in
-        let u : size ≡ end - start = omega arith in
-        step-whole n at h (ltb-false (length h) (at + 2) p) (ltb-false longestString size q) (ltb-false (length h) (at + 2 + size) r)
-        ∙ (λ i. inFront (take (u i) (drop (s i) h)) (readStrings n (drop (t i) h)))
+  -- after the last string no byte is left
+  pub end-reads : at ≡ length h → readStrings left (drop at h) ≡ some []
+  unfolding readStrings
+  end-reads e = let p : length h ≤ at = omega arith in λ i. readStrings (last i) (drop-of-length-le h p i)
 
--- where it does not, neither does the definition
-pub entry-bad : (n at : ℕ) (h : Bytes) → entryAt h at ≡ Bad → readStrings (suc n) (drop at h) ≡ none
-unfolding entryAt
-entry-bad n at h e = go (ltb (length h) (at + 2)) refl (ltb longestString size) refl (ltb (length h) (at + 2 + size)) refl e
-  where
-    size : ℕ
-    size = sizeAt h at
-
-    go : (a : Bool) → ltb (length h) (at + 2) ≡ a → (b : Bool) → ltb longestString size ≡ b → (d : Bool) → ltb (length h) (at + 2 + size) ≡ d
-        → (if a then Bad else if b then Bad else if d then Bad else At (at + 2) (at + 2 + size)) ≡ Bad
-        → readStrings (suc n) (drop at h) ≡ none
-    go true p b q d r e = few n (drop at h) (omega (arith, length-drop at h, ltb-true (length h) (at + 2) p))
-    go false p true q d r e = step-long n at h (ltb-false (length h) (at + 2) p) (ltb-true longestString size q)
-    go false p false q true r e = step-past n at h (ltb-false (length h) (at + 2) p) (ltb-true (length h) (at + 2 + size) r)
-    go false p false q false r e = absurd (apart (at + 2) (at + 2 + size) e)
-
--- ---- The end of a walk
-
--- after the last string nothing is left
-pub end-reads : (at : ℕ) (h : Bytes) → at ≡ length h → readStrings 0 (drop at h) ≡ some []
-unfolding readStrings
-end-reads at h e = ap (readStrings 0) (let p : length h ≤ at = omega arith in drop-of-length-le h p)
-
--- a byte that is left over
-pub end-bad : (at : ℕ) (h : Bytes) → at < length h → readStrings 0 (drop at h) ≡ none
-unfolding readStrings
-end-bad at h p = ap (readStrings 0) (drop-cons h at 0 p)
-
--- ---- Its start
-
--- no byte is no header
-pub count-missing : (h : Bytes) → length h < 1 → readHeader h ≡ none
-unfolding readHeader
-count-missing [] p = refl
-count-missing (x ∷ h) p = absurd (omega arith)
-
--- a count from 1 to 16 is that of the strings that follow
-pub count-reads : (h : Bytes) → 1 ≤ length h → 1 ≤ getD h 0 0 → getD h 0 0 ≤ mostStrings → readHeader h ≡ readStrings (getD h 0 0) (drop 1 h)
-unfolding readHeader
-count-reads [] p q r = absurd (omega arith)
-count-reads (x ∷ h) p q r = both _ none (le-leb 1 x q) (le-leb x mostStrings r)
-
--- a count of 0
-pub count-zero : (h : Bytes) → 1 ≤ length h → getD h 0 0 < 1 → readHeader h ≡ none
-unfolding readHeader
-count-zero [] p q = absurd (omega arith)
-count-zero (x ∷ h) p q = not-first (leb x mostStrings) _ none (lt-leb 1 x q)
-
--- a count above 16
-pub count-above : (h : Bytes) → 1 ≤ length h → mostStrings < getD h 0 0 → readHeader h ≡ none
-unfolding readHeader
-count-above [] p q = absurd (omega arith)
-count-above (x ∷ h) p q = not-second (leb 1 x) _ none (lt-leb x mostStrings q)
+  -- a byte that is left over
+  pub end-bad : at < length h → readStrings left (drop at h) ≡ none
+  unfolding readStrings
+  end-bad p = λ i. readStrings (last i) (drop-cons h at 0 p i)

@@ -1,11 +1,12 @@
 -- Where the strings of a header stand. An entry is a string after its two length bytes, high byte first.
-use mathlib.Core.List.{List}
+use mathlib.Core.Bool.{_&&_}
+use mathlib.Core.List.{List, [], _∷_}
 use mathlib.Core.Option.{Option, none, some}
 use Prim.Native.Nat.{ℕ, _+_, _-_, _*_, _≤_}
-use lib.Dec.{ltb}
+use lib.Dec.{ltb, leb}
 use lib.ListN.{length, getD}
 use Rattle.paper.specs.Strings.{Bytes, if_then_else_}
-use Rattle.paper.specs.Document01.{longestString}
+use Rattle.paper.specs.Document01.{mostStrings, longestString}
 use Rattle.header.specs.declared.Place.{Place}
 use Rattle.header.specs.declared.Place.the-variants.{At, Bad}
 use Rattle.header.specs.declared.Reading.{Reading}
@@ -27,6 +28,16 @@ entryAt h at =
 abbrev pub Within : Place → Bytes → Type 0
 Within Bad h = Unit {0}
 Within (At start end) h = (start ≤ end) × (end ≤ length h) × (end - start ≤ longestString)
+
+-- the count, which is the first byte: bad where there is none, or where it is not from 1 to 16
+unfoldable pub countOf : Bytes → Reading
+countOf [] = answers.Bad
+countOf (n ∷ h) = if leb 1 n && leb n mostStrings then answers.Strings n else answers.Bad
+
+-- a count is at most 16, and stands in h
+abbrev pub Few : Reading → Bytes → Type 0
+Few answers.Bad h = Unit {0}
+Few (answers.Strings n) h = (n ≤ mostStrings) × (1 ≤ length h)
 
 -- what a reader answers: how many strings there are, where the header reads
 abbrev pub readOf : Option (List Bytes) → Reading

@@ -6,7 +6,7 @@ ghost use mathlib.Core.Path.{_≡_};
 ghost use Prim.Native.Nat.{_+_, _<_, _≤_};
 ghost use lib.ListN.{length};
 ghost use Rattle.paper.specs.Document01.{readHeader, writeStrings, optional, logHeader, buildingLogHeader};
-ghost use Rattle.header.specs.Places.{entryAt, Within, readOf};
+ghost use Rattle.header.specs.Places.{entryAt, Within, countOf, Few, readOf};
 ghost use Rattle.answer.specs.Outcomes.{outcome};
 ghost use Rattle.header.specs.Building.{tooLong, settledAs, kept, placed};
 
@@ -23,7 +23,7 @@ pub enum Reading {
 }
 
 // A byte as a number that sums can be made of.
-fn wide(x: u8) -> usize
+fn as_number(x: u8) -> usize
     ensures { λ r. ⌜ (r ≡ x) × (r < 256) ⌝ }
 {
     x as usize
@@ -40,8 +40,8 @@ pub fn entry(h: &[u8], at: usize) -> Place
     if h.len() - at < 2 {
         return Place::Bad;
     }
-    let high = wide(h[at]);
-    let low = wide(h[at + 1]);
+    let high = as_number(h[at]);
+    let low = as_number(h[at + 1]);
     let size = high * 256 + low;
     if 1024 < size {
         return Place::Bad;
@@ -54,33 +54,44 @@ pub fn entry(h: &[u8], at: usize) -> Place
     Place::At(start, end)
 }
 
-// Whether a header reads: a count from 1 to 16, then that many strings, and no byte after the last.
-pub fn read(h: &[u8]) -> Reading
-    ensures { λ r. ⌜ r ≡ readOf (readHeader (now (h .entry))) ⌝ }
+// How many strings a header's first byte says that it has: from 1 to 16.
+pub fn count(h: &[u8]) -> Reading
+    ensures { λ r. ⌜ r ≡ countOf (now (h .entry)) ⌝ }
+    ensures few { λ r. ⌜ Few r (now (h .entry)) ⌝ }
 {
     if h.len() < 1 {
         return Reading::Bad;
     }
-    let count = wide(h[0]);
-    if count < 1 {
+    let n = as_number(h[0]);
+    if n < 1 {
         return Reading::Bad;
     }
-    if 16 < count {
+    if 16 < n {
         return Reading::Bad;
     }
+    Reading::Strings(n)
+}
+
+// Whether a header reads: a count from 1 to 16, then that many strings, and no byte after the last.
+pub fn read(h: &[u8]) -> Reading
+    ensures { λ r. ⌜ r ≡ readOf (readHeader (now (h .entry))) ⌝ }
+{
+    let Reading::Strings(n) = count(h) else {
+        return Reading::Bad;
+    };
     let mut at: usize = 1;
-    let mut k: usize = 0;
-    while k < count {
+    let mut left = n;
+    while 0 < left {
         let Place::At(_, end) = entry(h, at) else {
             return Reading::Bad;
         };
         at = end;
-        k += 1;
+        left -= 1;
     }
     if at != h.len() {
         return Reading::Bad;
     }
-    Reading::Strings(count)
+    Reading::Strings(n)
 }
 
 // Whether an item is longer than a string of a header may be.

@@ -1,22 +1,24 @@
--- `header::read` meets its contract. The invariant: after k entries, what the definition reads of the header is k strings and what it
--- reads of the rest.
+-- `header::read` meets its contract. The invariant: what the definition reads of the header is the strings of the entries passed, and what
+-- it reads of the rest.
 use mathlib.Core.List.{List}
 use mathlib.Core.Option.{Option, none, some}
 use mathlib.Core.Path.{_≡_, refl, ap, sym, _∙_}
-use Prim.Native.Nat.{ℕ, suc, _+_, _-_, _≤_, _<_}
+use Prim.Native.Nat.{ℕ, _+_, _-_, _≤_, _<_}
 use native.Mathlib.Omega.{arith}
 use borrow.Author.Needs.{needs}
-use lib.ListN.{length, getD, take, drop}
+use lib.ListN.{length, take, drop}
 use Rattle.paper.specs.Strings.{Bytes}
 use Rattle.paper.specs.Document01.{inFront, readStrings, readHeader}
 use Rattle.header.specs.declared.Place.the-variants.{At}
 use Rattle.header.specs.declared.Place.the-variants as places
 use Rattle.header.specs.declared.Reading.{Reading}
 use Rattle.header.specs.declared.Reading.the-variants.{Strings, Bad}
-use Rattle.header.specs.Places.{entryAt, Within, readOf}
-use Rattle.header.proofs.Walk.{entry-reads, entry-bad, end-reads, end-bad, count-missing, count-reads, count-zero, count-above}
+use Rattle.header.specs.Places.{entryAt, Within, countOf, Few, readOf}
+use Rattle.header.proofs.Walk.{count-reads, entry-reads, end-reads, end-bad}
 use Rattle.header.proofs.read.Statement.{statement}
 use Rattle.header.proofs.read.Tie as tie
+
+-- ---- The walk
 
 -- the answer after k strings, where the rest reads as o
 abbrev after : ℕ → Option (List Bytes) → Reading
@@ -27,73 +29,85 @@ after-none : (o : Option (List Bytes)) → readOf o ≡ after 0 o
 after-none none = refl
 after-none (some ss) = ap Strings (omega arith)
 
-after-one : (k : ℕ) (s : Bytes) (o : Option (List Bytes)) → after k (inFront s o) ≡ after (k + 1) o
-after-one k s none = refl
-after-one k s (some ss) = ap Strings (omega arith)
+after-one : (k m : ℕ) (s : Bytes) (o : Option (List Bytes)) → m ≡ k + 1 → after k (inFront s o) ≡ after m o
+after-one k m s none e = refl
+after-one k m s (some ss) e = ap Strings (omega arith)
+
+-- what is left to read of n strings
+abbrev rest : Bytes → ℕ → ℕ → ℕ → Reading
+rest h n at left = after (n - left) (readStrings left (drop at h))
 
 -- before the first entry
-start : (h : Bytes) (n : ℕ) → n ≡ getD h 0 0 → 1 ≤ length h → 1 ≤ n → n ≤ 16 → readOf (readHeader h) ≡ after 0 (readStrings (n - 0) (drop 1 h))
-start h n e p q r =
-    let m : getD h 0 0 ≡ n - 0 = omega arith in
-    after-none (readHeader h)
-    ∙ ap (after 0) (count-reads h p (omega arith) (omega arith) ∙ ap (λ (i : ℕ). readStrings i (drop 1 h)) m)
+begun : (h : Bytes) (n : ℕ) → Strings n ≡ countOf h → readOf (readHeader h) ≡ rest h n 1 n
+begun h n e =
+    let none-passed : 0 ≡ n - n = omega arith in
+    after-none (readHeader h) ∙ (λ i. after (none-passed i) (count-reads h (Strings n) e i))
 
-module _ (h : Bytes) (n k at : ℕ) (more : k < n) where
-  left : n - k ≡ suc (n - (k + 1))
-  left = omega arith
-
+module _ (h : Bytes) (n at left : ℕ) (some-left : 0 < left) (few : left ≤ n) where
   -- an entry that reads
-  turn : (s e : ℕ) → At s e ≡ entryAt h at → after k (readStrings (n - k) (drop at h)) ≡ after (k + 1) (readStrings (n - (k + 1)) (drop e h))
+  turn : (s e : ℕ) → At s e ≡ entryAt h at → rest h n at left ≡ rest h n e (left - 1)
   turn s e p =
-      ap (λ (m : ℕ). after k (readStrings m (drop at h))) left
-      ∙ ap (after k) (entry-reads (n - (k + 1)) at h s e (sym p))
-      ∙ after-one k (take (e - s) (drop s h)) (readStrings (n - (k + 1)) (drop e h))
+      ap (after (n - left)) (entry-reads left at h (At s e) some-left p)
+      ∙ after-one (n - left) (n - (left - 1)) (take (e - s) (drop s h)) (readStrings (left - 1) (drop e h)) (omega arith)
 
   -- an entry that does not
-  stop : places.Bad ≡ entryAt h at → after k (readStrings (n - k) (drop at h)) ≡ Bad
-  stop p =
-      ap (λ (m : ℕ). after k (readStrings m (drop at h))) left
-      ∙ ap (after k) (entry-bad (n - (k + 1)) at h (sym p))
+  stop : places.Bad ≡ entryAt h at → rest h n at left ≡ Bad
+  stop p = ap (after (n - left)) (entry-reads left at h places.Bad some-left p)
 
--- after the last entry
-module _ (h : Bytes) (n k at : ℕ) (all : k ≡ n) where
-  nothing-left : n - k ≡ 0
-  nothing-left = omega arith
+module _ (h : Bytes) (n at left : ℕ) (none-left : left ≤ 0) where
+  -- nothing after the last entry
+  good : at ≡ length h → rest h n at left ≡ Strings n
+  good p = ap (after (n - left)) (end-reads left at h none-left p) ∙ ap Strings (omega arith)
 
-  good : at ≡ length h → after k (readStrings (n - k) (drop at h)) ≡ Strings n
-  good p =
-      ap (λ (m : ℕ). after k (readStrings m (drop at h))) nothing-left
-      ∙ ap (after k) (end-reads at h p)
-      ∙ ap Strings (omega arith)
+  -- something after it
+  over : at < length h → rest h n at left ≡ Bad
+  over p = ap (after (n - left)) (end-bad left at h none-left p)
 
-  over : at < length h → after k (readStrings (n - k) (drop at h)) ≡ Bad
-  over p =
-      ap (λ (m : ℕ). after k (readStrings m (drop at h))) nothing-left
-      ∙ ap (after k) (end-bad at h p)
+-- ---- The places
 
 abbrev Inv-loop : tie.InvT-loop
-Inv-loop h count at₀ k₀ at k = (at ≤ length h) × (k ≤ count) × (readOf (readHeader h) ≡ after k (readStrings (count - k) (drop at h)))
+Inv-loop h n at₀ left₀ at left = (at ≤ length h) × (left ≤ n) × (readOf (readHeader h) ≡ rest h n at left)
 
 abbrev μ-loop : tie.MeasureT-loop
-μ-loop h count at₀ k₀ at k = count - k
+μ-loop h n at₀ left₀ at left = left
+
+abbrev start : tie.After-count Inv-loop μ-loop → tie.Start Inv-loop μ-loop
+start c = c .before .before
+
+abbrev counted : tie.At-loop Inv-loop μ-loop → tie.After-n Inv-loop μ-loop
+counted c = c .before .before
+
+module _ (c : tie.After-n Inv-loop μ-loop) where
+  abbrev h : Bytes
+  h = start (c .before .before) .args .h .now
+
+  abbrev n : ℕ
+  n = c .n .given .0 .0
+
+  is-count : Strings n ≡ countOf h
+  is-count = rw (c .n .given .1) at (c .before .before .count .ensures .0)
+
+  is-few : Few (Strings n) h
+  is-few = rw (c .n .given .1) at (c .before .before .count .ensures .1)
+
+count-requires : tie.Need-count-requires Inv-loop μ-loop
+count-requires c κs = search needs
+
+enum-known-n : tie.Need-enum-known-n Inv-loop μ-loop
+enum-known-n c = search needs
+
+enum-told : tie.Need-enum-told Inv-loop μ-loop
+enum-told c = search needs
 
 returns : tie.Need-returns Inv-loop μ-loop
-returns c = ap readOf (sym (count-missing (c .before .before .args .h .now) (c .if1 .taken)))
-
-shared-slice-read-wide : tie.Need-shared-slice-read-wide Inv-loop μ-loop
-shared-slice-read-wide c = search needs
-
-wide-requires : tie.Need-wide-requires Inv-loop μ-loop
-wide-requires c κs = search needs
-
-returns-2 : tie.Need-returns-2 Inv-loop μ-loop
-returns-2 c = ap readOf (sym (count-zero (c .before .before .before .before .before .args .h .now) (omega arith) (omega arith)))
-
-returns-3 : tie.Need-returns-3 Inv-loop μ-loop
-returns-3 c = ap readOf (sym (count-above (c .before .before .before .before .before .before .args .h .now) (omega arith) (omega arith)))
+returns c =
+    let r = c .before .before in
+    ap readOf (sym (count-reads (start r .args .h .now) Bad (rw (c .enum-told .given .1) at (r .count .ensures .0))))
 
 loop-holds : tie.Need-loop-holds Inv-loop μ-loop
-loop-holds c = (omega arith, omega arith, start (c .before .before .before .before .before .before .args .h .now) (c .before .before .wide .result) (c .before .before .wide .ensures .0) (omega arith) (omega arith) (omega arith))
+loop-holds c =
+    let r = c .before in
+    (is-few r .1, omega arith, begun (h r) (n r) (is-count r))
 
 entry-requires : tie.Need-entry-requires Inv-loop μ-loop
 entry-requires c κs = search needs
@@ -101,40 +115,46 @@ entry-requires c κs = search needs
 enum-known-end : tie.Need-enum-known-end Inv-loop μ-loop
 enum-known-end c = search needs
 
-enum-told : tie.Need-enum-told Inv-loop μ-loop
-enum-told c = search needs
+enum-told-2 : tie.Need-enum-told-2 Inv-loop μ-loop
+enum-told-2 c = search needs
 
-returns-4 : tie.Need-returns-4 Inv-loop μ-loop
-returns-4 c =
-    let l = c .before .before .before .before .loop in
-    let bad : places.Bad ≡ entryAt (c .before .before .before .before .before .before .before .before .before .before .before .args .h .now) (l .at) = rw (c .enum-told .given .1) at (c .before .before .entry .ensures .0) in
-    sym (l .inv .2 ∙ stop (c .before .before .before .before .before .before .before .before .before .before .before .args .h .now) (c .before .before .before .before .before .before .before .wide .result) (l .k) (l .at) (omega arith) bad)
+returns-2 : tie.Need-returns-2 Inv-loop μ-loop
+returns-2 c =
+    let p = c .before .before in
+    let at-loop = p .before .before in
+    let r = counted at-loop in
+    let l = at-loop .loop in
+    sym (l .inv .2 ∙ stop (h r) (n r) (l .at) (l .left) (omega arith) (omega arith) (rw (c .enum-told2 .given .1) at (p .entry .ensures .0)))
 
-add-k : tie.Need-add-k Inv-loop μ-loop
-add-k c = search needs
+sub-left : tie.Need-sub-left Inv-loop μ-loop
+sub-left c = search needs
 
 loop-less : tie.Need-loop-less Inv-loop μ-loop
 loop-less c = search needs
 
 loop-again : tie.Need-loop-again Inv-loop μ-loop
 loop-again c =
-    let h = c .before .before .before .before .before .before .before .before .before .before .before .before .args .h .now in
-    let l = c .before .before .before .before .before .loop in
-    let s = c .before .end .given .0 .0 in
-    let e = c .before .end .given .0 .1 .0 in
-    let found : At s e ≡ entryAt h (l .at) = rw (c .before .end .given .1) at (c .before .before .before .entry .ensures .0) in
-    let inside : Within (At s e) h = rw (c .before .end .given .1) at (c .before .before .before .entry .ensures .1) in
-    (omega arith, omega arith, l .inv .2 ∙ turn h (c .before .before .before .before .before .before .before .before .wide .result) (l .k) (l .at) (omega arith) s e found)
+    let place = c .before .end .given in
+    let p = c .before .before .before in
+    let at-loop = p .before .before in
+    let r = counted at-loop in
+    let l = at-loop .loop in
+    let s = place .0 .0 in
+    let e = place .0 .1 .0 in
+    let inside : Within (At s e) (h r) = rw (place .1) at (p .entry .ensures .1) in
+    (omega arith, omega arith, l .inv .2 ∙ turn (h r) (n r) (l .at) (l .left) (omega arith) (omega arith) s e (rw (place .1) at (p .entry .ensures .0)))
 
-returns-5 : tie.Need-returns-5 Inv-loop μ-loop
-returns-5 c =
+returns-3 : tie.Need-returns-3 Inv-loop μ-loop
+returns-3 c =
+    let r = counted (c .before .before) in
     let l = c .before .before .loop in
-    sym (l .inv .2 ∙ over (c .before .before .before .before .before .before .before .before .before .args .h .now) (c .before .before .before .before .before .wide .result) (l .k) (l .at) (omega arith) (omega arith))
+    sym (l .inv .2 ∙ over (h r) (n r) (l .at) (l .left) (omega arith) (omega arith))
 
-returns-6 : tie.Need-returns-6 Inv-loop μ-loop
-returns-6 c =
+returns-4 : tie.Need-returns-4 Inv-loop μ-loop
+returns-4 c =
+    let r = counted (c .before .before) in
     let l = c .before .before .loop in
-    sym (l .inv .2 ∙ good (c .before .before .before .before .before .before .before .before .before .args .h .now) (c .before .before .before .before .before .wide .result) (l .k) (l .at) (omega arith) (omega arith))
+    sym (l .inv .2 ∙ good (h r) (n r) (l .at) (l .left) (omega arith) (c .if1 .left))
 
 pub read-spec : {M : Type 1} → statement M
 read-spec =
@@ -142,18 +162,17 @@ read-spec =
     (tie.spec
     Inv-loop
     μ-loop
+    count-requires
+    enum-known-n
+    enum-told
     returns
-    shared-slice-read-wide
-    wide-requires
-    returns-2
-    returns-3
     loop-holds
     entry-requires
     enum-known-end
-    enum-told
-    returns-4
-    add-k
+    enum-told-2
+    returns-2
+    sub-left
     loop-less
     loop-again
-    returns-5
-    returns-6)
+    returns-3
+    returns-4)
