@@ -18,10 +18,6 @@ module _ (nonce host collector locale : Bytes) where
   abbrev header : Bytes
   header = logHeader nonce host collector locale
 
-  -- what the test for long items found
-  pub found : (r v : Bool) → r ≡ long → r ≡ v → long ≡ v
-  found r v p q = sym p ∙ q
-
   pub settles : (bytes : ℕ) (a b : Bool) → long ≡ a → ltb bytes (length header) ≡ b → (if a then 8 else if b then 6 else 0) ≡ settledAs nonce host collector locale bytes
   unfolding settledAs
   settles bytes a b p q = ap₂ (λ (a b : Bool). if a then 8 else if b then 6 else 0) (sym p) (sym q)

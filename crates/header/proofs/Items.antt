@@ -28,18 +28,18 @@ write-one s = append-nil (digits 256 2 (length s) ++ s)
 pub one-long : (s : Bytes) → length (writeStrings (s ∷ [])) ≡ 2 + length s
 one-long s = ap length (write-one s) ∙ omega arith
 
--- no string
-pub write-none : writeStrings [] ≡ []
+-- ---- An item that may be left out, by what a test found
+
+pub optional-kept : (s : Bytes) {b : Bool} → b ≡ kept s → b ≡ true → optional s [] ≡ s ∷ []
+optional-kept s p q = ap (λ (b : Bool). if b then [] else s ∷ []) (not-true (eqb (length s) 0) (sym p ∙ q))
+
+pub optional-left : (s : Bytes) {b : Bool} → b ≡ kept s → b ≡ false → optional s [] ≡ []
+optional-left s p q = ap (λ (b : Bool). if b then [] else s ∷ []) (not-false (eqb (length s) 0) (sym p ∙ q))
+
+-- what is written of an item that is left out
+pub nothing-written : (s : Bytes) {b : Bool} → b ≡ kept s → b ≡ false → writeStrings (optional s []) ≡ []
 unfolding writeStrings
-write-none = refl
-
--- ---- An item that may be left out
-
-pub optional-kept : (s : Bytes) → kept s ≡ true → optional s [] ≡ s ∷ []
-optional-kept s p = ap (λ (b : Bool). if b then [] else s ∷ []) (not-true (eqb (length s) 0) p)
-
-pub optional-left : (s : Bytes) → kept s ≡ false → optional s [] ≡ []
-optional-left s p = ap (λ (b : Bool). if b then [] else s ∷ []) (not-false (eqb (length s) 0) p)
+nothing-written s p q = ap writeStrings (optional-left s p q)
 
 optional-front : (s : Bytes) (ss : List Bytes) → optional s ss ≡ optional s [] ++ ss
 optional-front s ss = go (eqb (length s) 0)

@@ -5,6 +5,9 @@ use Rattle.header.proofs.Items.{log-long}
 use Rattle.header.proofs.log_length.Statement.{statement}
 use Rattle.header.proofs.log_length.Tie as tie
 
+abbrev start : tie.After-room → tie.Start
+start c = c .before .before .before .before .before
+
 room-requires : tie.Need-room-requires
 room-requires c κs = search needs
 
@@ -31,7 +34,7 @@ add-result-3 c = search needs
 
 returns : tie.Need-returns
 returns c =
-    let a = c .before .before .before .before .before .before .before .before .args in
+    let a = start (c .before .before .before) .args in
     omega (arith, log-long (a .nonce .now) (a .host .now) (a .collector .now) (a .locale .now))
 
 pub log-length-spec : {M : Type 1} → statement M

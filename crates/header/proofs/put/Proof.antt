@@ -1,16 +1,31 @@
 -- `header::put` meets its contract: the two length bytes, and the string right after them.
 use mathlib.Core.List.{[], _∷_}
-use mathlib.Core.Path.{ap, sym, _∙_}
-use Prim.Native.Nat.{_+_, _/_, _%_}
+use mathlib.Core.Path.{_≡_, ap, sym, _∙_}
+use Prim.Native.Nat.{ℕ, _+_, _/_, _%_, _≤_}
 use native.Mathlib.Omega.{arith}
 use borrow.Author.Needs.{needs}
-use lib.ListN.{length, length-set}
+use lib.ListN.{length, set, length-set}
 use Rattle.paper.specs.Strings.{Bytes}
+use Rattle.paper.specs.Document01.{writeStrings}
 use Rattle.header.specs.Building.{placed}
 use Rattle.header.proofs.Placed.{placed-then, stored-two}
 use Rattle.header.proofs.Items.{write-one, one-long}
 use Rattle.header.proofs.put.Statement.{statement}
 use Rattle.header.proofs.put.Tie as tie
+
+-- the two bytes of its length, and a string after them, are what is written of it
+together : (s out last : Bytes) (at : ℕ) → at + 2 + length s ≤ length out
+    → last ≡ placed (at + 2) s (set (set out at (length s / 256 % 256)) (at + 1) (length s % 256)) → last ≡ placed at (writeStrings (s ∷ [])) out
+together s out last at p e =
+    let high = length s / 256 % 256 in
+    let low = length s % 256 in
+    e
+    ∙ ap (placed (at + 2) s) (stored-two at high low out (omega arith))
+    ∙ placed-then at (high ∷ low ∷ []) s out (omega arith)
+    ∙ ap (λ (w : Bytes). placed at w out) (sym (write-one s))
+
+abbrev start : tie.After-copy → tie.Start
+start c = c .before .before .before .before
 
 cast-out : tie.Need-cast-out
 cast-out c = search needs
@@ -44,17 +59,10 @@ same-length c = c .before .before .copy .kept .0 ∙ simp length-set
 
 returns : tie.Need-returns
 returns c =
-    let a = c .before .before .before .before .before .before .args in
-    let s = a .s .now in
-    let out = a .out .now in
-    let high = length s / 256 % 256 in
-    let low = length s % 256 in (
-      omega (arith, one-long s),
-      c .before .before .copy .ensures
-          ∙ ap (placed (a .at + 2) s) (stored-two (a .at) high low out (omega arith))
-          ∙ placed-then (a .at) (high ∷ low ∷ []) s out (omega arith)
-          ∙ ap (λ (w : Bytes). placed (a .at) w out) (sym (write-one s)),
-    )
+    let copied = c .before .before in
+    let s = start copied in
+    let a = s .args in
+    (omega (arith, one-long (a .s .now)), together (a .s .now) (a .out .now) (copied .copy .last .0) (a .at) (s .pre) (copied .copy .ensures))
 
 pub put-spec : {M : Type 1} → statement M
 put-spec =

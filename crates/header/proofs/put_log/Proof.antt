@@ -36,6 +36,40 @@ module _ (nonce host collector locale out : Bytes) (fits : length (logHeader non
       ∙ ap (λ (k : ℕ). placed 0 ((k ∷ []) ++ n ++ h ++ c ++ l) out) count
       ∙ ap (λ (w : Bytes). placed 0 w out) (sym (log-parts nonce host collector locale))
 
+-- ---- The places: each call, from the one after it
+
+abbrev entered : tie.After-slice-known → tie.Start
+entered c = c .before .before .before .before .before
+
+abbrev start : tie.After-optional-count2 → tie.Start
+start c = entered (c .before .before)
+
+abbrev counted : tie.After-put → tie.After-optional-count2
+counted c = c .before .before
+
+abbrev first : tie.After-put2 → tie.After-put
+first c = c .before .before .before .before
+
+abbrev second : tie.After-put-optional → tie.After-put2
+second c = c .before .before .before .before
+
+abbrev third : tie.After-put-optional2 → tie.After-put-optional
+third c = c .before .before .before .before
+
+-- the four parts and the count fit
+room : (s : tie.Start) → 1 + (length (writeStrings (s .args .nonce .now ∷ [])) + length (writeStrings (s .args .host .now ∷ []))) + length (writeStrings (optional (s .args .collector .now) [])) + length (writeStrings (optional (s .args .locale .now) [])) ≤ length (s .args .out .now)
+room s = omega (arith, log-long (s .args .nonce .now) (s .args .host .now) (s .args .collector .now) (s .args .locale .now))
+
+-- no call changes the output's length
+long1 : (c : tie.After-put) → length (c .put .last .0) ≡ length (start (counted c) .args .out .now)
+long1 c = c .put .kept .0 ∙ simp length-set
+
+long2 : (c : tie.After-put2) → length (c .put2 .last .0) ≡ length (start (counted (first c)) .args .out .now)
+long2 c = c .put2 .kept .0 ∙ long1 (first c)
+
+long3 : (c : tie.After-put-optional) → length (c .put-optional .last .0) ≡ length (start (counted (first (second c))) .args .out .now)
+long3 c = c .put-optional .kept .0 ∙ long2 (second c)
+
 optional-count-requires : tie.Need-optional-count-requires
 optional-count-requires c κs = search needs
 
@@ -49,51 +83,48 @@ add-out-2 : tie.Need-add-out-2
 add-out-2 c = search needs
 
 slice-write-out : tie.Need-slice-write-out
-slice-write-out c =
-    let a = c .before .before .before .before .before .before .before .args in
-    omega (arith, log-long (a .nonce .now) (a .host .now) (a .collector .now) (a .locale .now))
+slice-write-out c = omega (arith, room (start c))
 
 put-requires : tie.Need-put-requires
 put-requires c κs =
-    let a = c .before .before .before .before .before .before .before .before .args in
-    simp length-set (omega (arith, log-long (a .nonce .now) (a .host .now) (a .collector .now) (a .locale .now), one-long (a .nonce .now)))
+    let s = start (c .before) in
+    simp length-set (omega (arith, room s, one-long (s .args .nonce .now)))
 
 put-requires-2 : tie.Need-put-requires-2
 put-requires-2 c κs =
-    let a = c .before .before .before .before .before .before .before .before .before .before .before .before .args in
-    omega (arith, log-long (a .nonce .now) (a .host .now) (a .collector .now) (a .locale .now), one-long (a .host .now), simp length-set at (c .before .before .before .put .kept .0))
+    let one = c .before .before .before in
+    let s = start (counted one) in
+    omega (arith, room s, one-long (s .args .host .now), long1 one)
 
 put-optional-requires : tie.Need-put-optional-requires
 put-optional-requires c κs =
-    let a = c .before .before .before .before .before .before .before .before .before .before .before .before .before .before .before .before .args in
-    omega (arith, log-long (a .nonce .now) (a .host .now) (a .collector .now) (a .locale .now), simp length-set at (c .before .before .before .before .before .before .before .put .kept .0))
+    let two = c .before .before .before in
+    omega (arith, room (start (counted (first two))), long2 two)
 
 put-optional-requires-2 : tie.Need-put-optional-requires-2
 put-optional-requires-2 c κs =
-    let a = c .before .before .before .before .before .before .before .before .before .before .before .before .before .before .before .before .before .before .before .before .args in
-    omega (arith, log-long (a .nonce .now) (a .host .now) (a .collector .now) (a .locale .now), simp length-set at (c .before .before .before .before .before .before .before .before .before .before .before .put .kept .0))
+    let three = c .before .before .before in
+    omega (arith, room (start (counted (first (second three)))), long3 three)
 
 same-length : tie.Need-same-length
-same-length c =
-    c .before .before .put-optional2 .kept .0
-    ∙ c .before .before .before .before .before .before .put-optional .kept .0
-    ∙ c .before .before .before .before .before .before .before .before .before .before .put2 .kept .0
-    ∙ c .before .before .before .before .before .before .before .before .before .before .before .before .before .before .put .kept .0
-    ∙ simp length-set
+same-length c = let four = c .before .before in four .put-optional2 .kept .0 ∙ long3 (third four)
 
 returns : tie.Need-returns
 returns c =
-    let a = c .before .before .before .before .before .before .before .before .before .before .before .before .before .before .before .before .before .before .before .before .before .before .before .args in
-    let one = c .before .before .before .before .before .before .before .before .before .before .before .before .before .before .put in
-    let two = c .before .before .before .before .before .before .before .before .before .before .put2 in
-    let three = c .before .before .before .before .before .before .put-optional in
-    let four = c .before .before .put-optional2 in
-    let collectors = c .before .before .before .before .before .before .before .before .before .before .before .before .before .before .before .before .before .optional-count in
-    let locales = c .before .before .before .before .before .before .before .before .before .before .before .before .before .before .before .before .optional-count2 in
-    together (a .nonce .now) (a .host .now) (a .collector .now) (a .locale .now) (a .out .now) (c .before .before .before .before .before .before .before .before .before .before .before .before .before .before .before .before .before .before .before .before .before .before .before .pre)
+    let four = c .before .before in
+    let three = third four in
+    let two = second three in
+    let one = first two in
+    let s = start (counted one) in
+    let a = s .args in
+    let collectors = counted one .before .optional-count in
+    let locales = counted one .optional-count2 in
+    together (a .nonce .now) (a .host .now) (a .collector .now) (a .locale .now) (a .out .now) (s .pre)
     (2 + collectors .result + locales .result) (λ i. 2 + collectors .ensures .0 i + locales .ensures .0 i)
-    (one .last .0) (two .last .0) (three .last .0) (four .last .0) (one .result) (two .result) (three .result)
-    (one .ensures .1) (one .ensures .0) (two .ensures .1) (two .ensures .0) (three .ensures .1) (three .ensures .0) (four .ensures .1)
+    (one .put .last .0) (two .put2 .last .0) (three .put-optional .last .0) (four .put-optional2 .last .0)
+    (one .put .result) (two .put2 .result) (three .put-optional .result)
+    (one .put .ensures .1) (one .put .ensures .0) (two .put2 .ensures .1) (two .put2 .ensures .0)
+    (three .put-optional .ensures .1) (three .put-optional .ensures .0) (four .put-optional2 .ensures .1)
 
 pub put-log-spec : {M : Type 1} → statement M
 put-log-spec =
