@@ -3,11 +3,13 @@
 -- lists, strings, bits
 pub mod Tables
 pub mod Fronts
+pub mod Counts
 pub mod Xor
 pub mod Strings
 pub mod Digits
 pub mod BitStrings
 pub mod BitBytes
+pub mod Bitwise
 pub mod Padding
 pub mod Joins
 -- FIPS 197, section 7, and the block function of Figure 6
@@ -23,8 +25,8 @@ pub mod HashBlocks
 pub mod Hash
 -- AEZ-tiny and AEZ-core, both ways
 pub mod Feistel
+pub mod LastStep
 pub mod Tiny
-pub mod HalfBytes
 pub mod CoreParts
 pub mod CoreBlocks
 pub mod CoreResult

@@ -10,8 +10,8 @@ use borrow.Author.Tests.{lt-ltb, le-ltb}
 use lib.ListN.{length, getD, set, replicate, length-append, length-replicate}
 use Rattle.paper.specs.Strings.{Bytes, if_then_else_, zip, _⊕_, _or_, _and_, zeroFill, pad10*}
 use Rattle.paper.specs.Figure6.{row, BlockFunction}
-use Rattle.laws.proofs.Tiny.{⊕-and-zeros}
-use Rattle.laws.proofs.HalfBytes.{flipped, lastBytes}
+use Rattle.laws.proofs.LastStep.{⊕-and-zeros}
+use Rattle.tiny.specs.HalfBytes.{lastBytes}
 
 or-zeros : (k : ℕ) (X : Bytes) → length X ≤ k → X or replicate k 0 ≡ X
 unfolding _or_ zip
@@ -39,10 +39,14 @@ filled-long C h g =
     length-append C (replicate ((16 - length C % 16) % 16) 0) ∙ omega (arith, length-replicate {A = ℕ} ((16 - length C % 16) % 16) 0)
 
 module _ (f : BlockFunction) (Δ C : Bytes) where
+  -- what the `if` makes of a short string
+  abbrev flipped : Bytes
+  flipped = C ⊕ (f (row 0) 3 (Δ ⊕ (zeroFill 16 C or pad10* [])) and pad10* [])
+
   -- 16 bytes or more are kept
   pub last-long : 16 ≤ length C → C ≡ lastBytes f Δ C
   unfolding lastBytes
-  last-long h = ap (λ (b : Bool). if b then flipped f Δ C else C) (sym (le-ltb (8 * length C) 128 (omega arith)))
+  last-long h = ap (λ (b : Bool). if b then flipped else C) (sym (le-ltb (8 * length C) 128 (omega arith)))
 
   -- X is the block under E, with its first bit set, and Y what E gives
   pub last-short : (X Y : Bytes) → 1 ≤ length C → length C < 16 → X ≡ zeroFill 16 C
@@ -55,4 +59,4 @@ module _ (f : BlockFunction) (Δ C : Bytes) where
       y ∙ ap (λ (Z : Bytes). f (row 0) 3 (Δ ⊕ Z)) (sym (first-set X (omega arith) (omega arith)) ∙ ap (λ (Z : Bytes). Z or pad10* []) x) in
       sym (first-added C Y h (omega arith) l)
       ∙ ap (λ (Z : Bytes). C ⊕ (Z and pad10* [])) e
-      ∙ ap (λ (b : Bool). if b then flipped f Δ C else C) (sym (lt-ltb (8 * length C) 128 (omega arith)))
+      ∙ ap (λ (b : Bool). if b then flipped else C) (sym (lt-ltb (8 * length C) 128 (omega arith)))

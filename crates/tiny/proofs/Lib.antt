@@ -1,4 +1,7 @@
-mod Filling
+mod ByteHalves
+mod PaddedHalves
+mod LastBits
+mod OnHalves
 mod FirstByte
 mod Indices
 mod AllTurns

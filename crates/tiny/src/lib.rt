@@ -4,12 +4,12 @@ ghost use mathlib.Core.Bool.{false};
 ghost use mathlib.Core.Path.{_≡_};
 ghost use Prim.Native.Nat.{_+_, _*_, _≤_, _<_};
 ghost use lib.ListN.{length, take, drop, getD};
-ghost use Rattle.paper.specs.Strings.{_⊕_, zeroFill};
+ghost use Rattle.paper.specs.Strings.{_⊕_};
 ghost use Rattle.paper.specs.Figure6.{E};
 ghost use Rattle.paper.specs.Figure5.{halves, joined, tinyRounds, tinyIndex, encipherTiny, decipherTiny};
-ghost use Rattle.laws.proofs.HalfBytes.{halfBytes, byteOf, wholeBytes, half10*, halfE, halfTurn, halfTurnsUp, halfTurnsDown, lastBytes};
 ghost use Rattle.tbc.specs.Meaning.{blocks, pair};
-ghost use Rattle.tiny.specs.Firsts.{firsts, halfTurns};
+ghost use Rattle.tiny.specs.HalfBytes.{halfBytes, byteOf, wholeBytes, half10*, halfE, halfTurn, halfTurnsUp, halfTurnsDown, lastBytes};
+ghost use Rattle.tiny.specs.Firsts.{firsts};
 
 // L and R.
 struct Halves {
@@ -29,19 +29,27 @@ fn half_byte(s: &[u8], j: usize) -> u8
     b % 16
 }
 
-// The n half-bytes of s from a place on.
-fn unpack(s: &[u8], at: usize, n: usize) -> [u8; 32]
+// l ⊕ h, for n half-bytes h of s from a place on.
+fn add(l: [u8; 32], s: &[u8], at: usize, n: usize) -> [u8; 32]
     requires { ⌜ (n ≤ 32) × ((at ≤ 32) × (at + n ≤ 2 * length (now s))) ⌝ }
-    ensures { λ r. ⌜ take n r ≡ take n (drop at (halfBytes (now (s .entry)))) ⌝ }
+    ensures { λ r. ⌜ take n r ≡ take n l ⊕ take n (drop at (halfBytes (now (s .entry)))) ⌝ }
 {
     let mut r = [0u8; 32];
     let mut i: usize = 0;
     while i < n {
         let h = half_byte(s, at + i);
-        r[i] = h;
+        r[i] = l[i] ^ h;
         i += 1;
     }
     r
+}
+
+// The n half-bytes of s from a place on.
+fn unpack(s: &[u8], at: usize, n: usize) -> [u8; 32]
+    requires { ⌜ (n ≤ 32) × ((at ≤ 32) × (at + n ≤ 2 * length (now s))) ⌝ }
+    ensures { λ r. ⌜ take n r ≡ take n (drop at (halfBytes (now (s .entry)))) ⌝ }
+{
+    add([0u8; 32], s, at, n)
 }
 
 // The byte of two half-bytes.
@@ -51,17 +59,25 @@ fn byte_of(h: u8, l: u8) -> u8
     h % 16 * 16 + l % 16
 }
 
+// The bytes of the half-bytes h put into s.
+fn put_bytes(s: &mut [u8], h: &[u8])
+    requires { ⌜ length (now h) ≡ length (now s) + length (now s) ⌝ }
+    ensures { λ _. ⌜ now (s .exit) ≡ wholeBytes (now (h .entry)) ⌝ }
+{
+    let mut i: usize = 0;
+    while i < s.len() {
+        let b = byte_of(h[2 * i], h[2 * i + 1]);
+        s[i] = b;
+        i += 1;
+    }
+}
+
 // The block of 32 half-bytes.
 fn pack(h: [u8; 32]) -> [u8; 16]
     ensures { λ x. ⌜ x ≡ wholeBytes h ⌝ }
 {
     let mut x = [0u8; 16];
-    let mut i: usize = 0;
-    while i < 16 {
-        let b = byte_of(h[2 * i], h[2 * i + 1]);
-        x[i] = b;
-        i += 1;
-    }
+    put_bytes(&mut x, &h);
     x
 }
 
@@ -71,26 +87,9 @@ fn pad(r: [u8; 32], n: usize) -> [u8; 32]
     ensures { λ p. ⌜ p ≡ half10* (take n r) ⌝ }
 {
     let mut p = [0u8; 32];
-    let mut i: usize = 0;
-    while i < n {
-        p[i] = r[i];
-        i += 1;
-    }
-    p[i] = 8;
+    block::copy(&mut p, 0, &r[..n]);
+    p[n] = 8;
     p
-}
-
-// a ⊕ b.
-fn xor(a: [u8; 32], b: [u8; 32]) -> [u8; 32]
-    ensures { λ r. ⌜ r ≡ a ⊕ b ⌝ }
-{
-    let mut r = [0u8; 32];
-    let mut i: usize = 0;
-    while i < 32 {
-        r[i] = a[i] ^ b[i];
-        i += 1;
-    }
-    r
 }
 
 // Lines 212 and 213: the number of rounds for n bytes.
@@ -141,8 +140,7 @@ fn turn(k: tbc::Key, delta: [u8; 16], n: usize, i: u64, s: Halves) -> Halves
     let l = s.l;
     let r = s.r;
     let y = e_of_turn(k, delta, n, i, r);
-    let more = unpack(&y, 0, n);
-    let sum = xor(l, more);
+    let sum = add(l, &y, 0, n);
     Halves { l: r, r: sum }
 }
 
@@ -168,24 +166,13 @@ fn turns_down(k: tbc::Key, delta: [u8; 16], n: usize, s: Halves) -> Halves
     ensures { λ t. ⌜ firsts n t ≡ halfTurnsDown (E (blocks k)) delta n (tinyIndex (8 * n)) (tinyRounds (8 * n)) (firsts n s) ⌝ }
 {
     let mut t = s;
-    let mut i = rounds(n);
-    while 0 < i {
-        i -= 1;
-        let next = turn(k, delta, n, i, t);
+    let mut left = rounds(n);
+    while 0 < left {
+        left -= 1;
+        let next = turn(k, delta, n, left, t);
         t = next;
     }
     t
-}
-
-// Line 215: the turns for n bytes, counted down when deciphering.
-fn turns(k: tbc::Key, delta: [u8; 16], n: usize, down: bool, s: Halves) -> Halves
-    requires { ⌜ n ≤ 31 ⌝ }
-    ensures { λ t. ⌜ firsts n t ≡ halfTurns down (E (blocks k)) delta n (firsts n s) ⌝ }
-{
-    if down {
-        return turns_down(k, delta, n, s);
-    }
-    turns_up(k, delta, n, s)
 }
 
 // Line 214: L and R of s.
@@ -199,47 +186,19 @@ fn halves_of(s: &[u8]) -> Halves
     Halves { l, r }
 }
 
-// Line 217: half-byte j of R ‖ L.
-fn joined_at(t: Halves, n: usize, j: usize) -> u8
-    requires { ⌜ (n ≤ 31) × (j < n + n) ⌝ }
-    ensures { λ r. ⌜ r ≡ getD (joined (firsts n t)) j 0 ⌝ }
-{
-    if j < n {
-        let r = t.r;
-        return r[j];
-    }
-    let l = t.l;
-    l[j - n]
-}
-
 // Line 217: R ‖ L put into s.
 fn put_joined(t: Halves, s: &mut [u8])
     requires { ⌜ length (now s) ≤ 31 ⌝ }
     ensures { λ _. ⌜ now (s .exit) ≡ wholeBytes (joined (firsts (length (now (s .entry))) t)) ⌝ }
 {
     let n = s.len();
-    let mut i: usize = 0;
-    while i < n {
-        let h = joined_at(t, n, 2 * i);
-        let l = joined_at(t, n, 2 * i + 1);
-        let b = byte_of(h, l);
-        s[i] = b;
-        i += 1;
-    }
-}
-
-// s0*.
-fn fill(s: &[u8]) -> [u8; 16]
-    requires { ⌜ (1 ≤ length (now s)) × (length (now s) ≤ 16) ⌝ }
-    ensures { λ r. ⌜ r ≡ zeroFill 16 (now (s .entry)) ⌝ }
-{
-    let mut r = [0u8; 16];
-    let mut i: usize = 0;
-    while i < s.len() {
-        r[i] = s[i];
-        i += 1;
-    }
-    r
+    let r = t.r;
+    let l = t.l;
+    let mut h = [0u8; 64];
+    block::copy(&mut h, 0, &r[..n]);
+    block::copy(&mut h, n, &l[..n]);
+    let m = n + n;
+    put_bytes(s, &h[..m]);
 }
 
 // Line 217, its `if`: the first bit of a string of less than 16 bytes.
@@ -250,7 +209,8 @@ fn last_step(k: tbc::Key, delta: [u8; 16], s: &mut [u8])
     if 16 <= s.len() {
         return;
     }
-    let mut x = fill(s);
+    let mut x = [0u8; 16];
+    block::copy(&mut x, 0, s);
     x[0] = x[0] | 128;
     let y = block::xor(delta, x);
     let e = tbc::e(k, tbc::Pair::TINY_LAST, y);
@@ -264,7 +224,7 @@ pub fn encipher(k: tbc::Key, delta: [u8; 16], s: &mut [u8])
 {
     let n = s.len();
     let both = halves_of(s);
-    let t = turns(k, delta, n, false, both);
+    let t = turns_up(k, delta, n, both);
     put_joined(t, s);
     last_step(k, delta, s);
 }
@@ -277,6 +237,6 @@ pub fn decipher(k: tbc::Key, delta: [u8; 16], s: &mut [u8])
     let n = s.len();
     last_step(k, delta, s);
     let both = halves_of(s);
-    let t = turns(k, delta, n, true, both);
+    let t = turns_down(k, delta, n, both);
     put_joined(t, s);
 }

@@ -1,20 +1,50 @@
 -- `tiny::decipher` meets its contract.
 use mathlib.Core.Path.{refl, ap, sym, _∙_}
-use Prim.Native.Nat.{ℕ}
+use Prim.Native.Nat.{ℕ, _*_}
 use native.Mathlib.Omega.{arith}
 use borrow.Author.Needs.{needs}
 use lib.ListN.{length}
 use Rattle.paper.specs.Strings.{Bytes, Digits, Block}
-use Rattle.paper.specs.Figure6.{E}
+use Rattle.paper.specs.Figure6.{BlockFunction, E}
+use Rattle.paper.specs.Figure5.{tinyRounds, tinyIndex}
+use Rattle.laws.proofs.BlockFunction.{GivesBlocks}
 use Rattle.laws.proofs.Digits.{below-of}
-use Rattle.laws.proofs.HalfBytes.{decipherTiny-halfBytes, lastBytes-digits}
 use Rattle.laws.proofs.KeyBlocks.{E-block}
 use Rattle.block.proofs.Arrays.{array-bytes}
 use Rattle.tbc.specs.Meaning.{blocks}
-use Rattle.tiny.proofs.AllTurns.{down-all}
 use Rattle.tbc.proofs.Keys.{key-bytes}
+use Rattle.tiny.specs.HalfBytes.{halfTurnsDown}
+use Rattle.tiny.proofs.LastBits.{lastBytes-digits}
+use Rattle.tiny.proofs.OnHalves.{decipherTiny-halfBytes}
+use Rattle.tiny.proofs.AllTurns.{all-turns}
 use Rattle.tiny.proofs.decipher.Statement.{statement}
 use Rattle.tiny.proofs.decipher.Tie as tie
+
+-- from each call to the one before it
+abbrev at-turns : tie.After-put-joined → tie.After-turns-down
+at-turns c = c .before .before
+
+abbrev at-last : tie.After-turns-down → tie.After-last-step
+at-last c = c .before .before .before .before .before
+
+abbrev known : tie.After-last-step → tie.After-slice-known
+known c = c .before .before
+
+-- the string, its length, and the block function
+abbrev M : tie.After-last-step → Bytes
+M c = known c .before .args .s .now
+
+abbrev f : tie.After-last-step → BlockFunction
+f c = E (blocks (known c .before .args .k))
+
+f-block : (c : tie.After-last-step) → GivesBlocks (f c)
+f-block c = E-block (key-bytes (known c .before .args .k) _ (known c .before .good .0))
+
+delta-block : (c : tie.After-last-step) → Block (known c .before .args .delta)
+delta-block c = array-bytes 16 _ _ (known c .before .good .1 .0)
+
+M-bytes : (c : tie.After-last-step) → Digits 8 (length (M c)) (M c)
+M-bytes c = record { len = refl; low = below-of 256 (M c) (λ i h. omega (arith, known c .slice-known .given i)) }
 
 last-step-requires : tie.Need-last-step-requires
 last-step-requires c κs = search needs
@@ -22,8 +52,8 @@ last-step-requires c κs = search needs
 halves-of-requires : tie.Need-halves-of-requires
 halves-of-requires c κs = search needs
 
-turns-requires : tie.Need-turns-requires
-turns-requires c κs = search needs
+turns-down-requires : tie.Need-turns-down-requires
+turns-down-requires c κs = search needs
 
 put-joined-requires : tie.Need-put-joined-requires
 put-joined-requires c κs = search needs
@@ -33,21 +63,15 @@ same-length c = search needs
 
 returns : tie.Need-returns
 returns c =
-    let start = c .before .before .before .before .before .before .before .before .before .before .before .before in
-    let a = start .args in
-    let M : Bytes = a .s .now in
-    let n : ℕ = length M in
-    let f = E (blocks (a .k)) in
-    let key = E-block (key-bytes (a .k) _ (start .good .0)) in
-    let block : Block (a .delta) = array-bytes 16 _ _ (start .good .1 .0) in
-    let known = c .before .before .before .before .before .before .before .before .before .before .before .slice-known .given in
-    let M-bytes : Digits 8 n M = record { len = refl; low = below-of 256 M (λ i h. omega (arith, known i)) } in
-    let last = c .before .before .before .before .before .before .before .before .before .last-step .ensures in
-    let long = ap length last ∙ lastBytes-digits f key (a .delta) block n (omega arith) M-bytes .len in
-    let both = c .before .before .before .before .before .halves-of in
-    let t = c .before .before .before .before .turns in
-    down-all f (a .delta) n (both .result) (t .result) last long (both .ensures) (t .ensures) (c .before .before .put-joined .ensures)
-    ∙ sym (decipherTiny-halfBytes f key (a .delta) block n M (omega arith) (omega arith) M-bytes)
+    let p = c .before .before in
+    let t = at-turns p in
+    let l = at-last t in
+    let delta = known l .before .args .delta in
+    let n : ℕ = length (M l) in
+    let both = t .before .halves-of in
+    let long = ap length (l .last-step .ensures) ∙ lastBytes-digits (f l) (f-block l) delta (delta-block l) n (omega arith) (M-bytes l) .len in
+    all-turns (halfTurnsDown (f l) delta n (tinyIndex (8 * n)) (tinyRounds (8 * n))) n (both .result) (t .turns-down .result) (l .last-step .ensures) long (both .ensures) (t .turns-down .ensures) (p .put-joined .ensures)
+    ∙ sym (decipherTiny-halfBytes (f l) (f-block l) delta (delta-block l) n (omega arith) (omega arith) (M l) (M-bytes l))
 
 pub decipher-spec : {M : Type 1} → statement M
 decipher-spec =
@@ -55,7 +79,7 @@ decipher-spec =
     (tie.spec
     last-step-requires
     halves-of-requires
-    turns-requires
+    turns-down-requires
     put-joined-requires
     same-length
     returns)

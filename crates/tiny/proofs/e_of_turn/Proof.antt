@@ -6,12 +6,22 @@ use borrow.Author.Needs.{needs}
 use Rattle.paper.specs.Strings.{Bytes, _⊕_}
 use Rattle.paper.specs.Figure6.{row, E}
 use Rattle.paper.specs.Figure5.{tinyIndex}
-use Rattle.laws.proofs.HalfBytes.{wholeBytes, halfE}
+use Rattle.tiny.specs.HalfBytes.{wholeBytes, halfE}
 use Rattle.tbc.specs.Meaning.{blocks}
 use Rattle.tbc.proofs.Pairs.{at-pair, plain}
 use Rattle.tiny.proofs.Indices.{index-le}
 use Rattle.tiny.proofs.e_of_turn.Statement.{statement}
 use Rattle.tiny.proofs.e_of_turn.Tie as tie
+
+-- from each call to the one before it
+abbrev paired : tie.After-pack → tie.After-pair-for
+paired c = c .before .before
+
+abbrev packed : tie.After-xor → tie.After-pack
+packed c = c .before .before
+
+abbrev start : tie.After-xor → tie.Start
+start c = paired (packed c) .before
 
 pair-for-requires : tie.Need-pair-for-requires
 pair-for-requires c κs = search needs
@@ -33,17 +43,19 @@ xor-requires-2 c κs = search needs
 
 e-requires : tie.Need-e-requires
 e-requires c κs =
-    let a = c .before .before .before .before .before .before .args in
-    plain _ false 0 (tinyIndex (8 * a .n)) (c .before .before .before .before .before .pair-for .ensures) (index-le (8 * a .n))
+    let m = 8 * start (c .before) .args .n in
+    plain _ false 0 (tinyIndex m) (paired (packed (c .before)) .pair-for .ensures) (index-le m)
 
 returns : tie.Need-returns
 unfolding halfE
 returns c =
-    let a = c .before .before .before .before .before .before .before .args in
-    let x = c .before .before .before .before .pack .ensures ∙ ap wholeBytes (c .before .before .before .before .before .pad .ensures) in
-    let y = c .before .xor2 .ensures ∙ ap (λ (Y : Bytes). a .delta ⊕ Y) (c .before .before .xor .ensures ∙ ap₂ _⊕_ x (c .before .before .before .number .ensures)) in
+    let sum = c .before .before in
+    let pk = packed sum in
+    let a = start sum .args in
+    let x = pk .pack .ensures ∙ ap wholeBytes (pk .before .pad .ensures) in
+    let y = c .before .xor2 .ensures ∙ ap (λ (Y : Bytes). a .delta ⊕ Y) (sum .xor .ensures ∙ ap₂ _⊕_ x (sum .before .number .ensures)) in
     c .e .ensures
-    ∙ at-pair _ false 0 (tinyIndex (8 * a .n)) (c .before .before .before .before .before .before .pair-for .ensures) (blocks (a .k)) _
+    ∙ at-pair _ false 0 (tinyIndex (8 * a .n)) (paired pk .pair-for .ensures) (blocks (a .k)) _
     ∙ ap (E (blocks (a .k)) (row 0) (tinyIndex (8 * a .n))) y
 
 pub e-of-turn-spec : {M : Type 1} → statement M

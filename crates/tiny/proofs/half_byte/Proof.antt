@@ -2,7 +2,7 @@
 use mathlib.Core.Path.{sym}
 use native.Mathlib.Omega.{arith}
 use borrow.Author.Needs.{needs}
-use Rattle.laws.proofs.HalfBytes.{halfBytes-even, halfBytes-odd}
+use Rattle.tiny.proofs.ByteHalves.{halfBytes-even, halfBytes-odd}
 use Rattle.tiny.proofs.half_byte.Statement.{statement}
 use Rattle.tiny.proofs.half_byte.Tie as tie
 

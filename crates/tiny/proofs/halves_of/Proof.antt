@@ -6,7 +6,8 @@ use native.Mathlib.Omega.{arith}
 use borrow.Author.Needs.{needs}
 use lib.ListN.{length, drop, length-drop}
 use lib.Seq.{take-all}
-use Rattle.laws.proofs.HalfBytes.{halfBytes, length-halfBytes}
+use Rattle.tiny.specs.HalfBytes.{halfBytes}
+use Rattle.tiny.proofs.ByteHalves.{length-halfBytes}
 use Rattle.tiny.proofs.halves_of.Statement.{statement}
 use Rattle.tiny.proofs.halves_of.Tie as tie
 

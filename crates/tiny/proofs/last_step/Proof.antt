@@ -1,20 +1,42 @@
 -- `tiny::last_step` meets its contract.
-use mathlib.Core.Path.{ap, _∙_}
+use mathlib.Core.List.{List, _++_}
+use mathlib.Core.Path.{_≡_, ap, _∙_}
+use Prim.Native.Nat.{ℕ}
+use native.Mathlib.Nat.{zero-add}
 use native.Mathlib.Omega.{arith}
 use borrow.Author.Needs.{needs}
+use lib.ListN.{length, drop, replicate}
+use Rattle.paper.specs.Strings.{zeroFill}
 use Rattle.paper.specs.Figure6.{row, E}
+use Rattle.laws.proofs.Padding.{fill-over}
 use Rattle.tbc.specs.Meaning.{blocks}
 use Rattle.tiny.proofs.FirstByte.{last-long, last-short}
 use Rattle.tiny.proofs.last_step.Statement.{statement}
 use Rattle.tiny.proofs.last_step.Tie as tie
+
+abbrev start : tie.After-copy → tie.Start
+start c = c .before .before .before .before .before
+
+abbrev copied : tie.After-slice-known2 → tie.After-copy
+copied c = c .before .before .before .before
+
+-- s0*
+filled : (c : tie.After-copy) → c .copy .last .0 ≡ zeroFill 16 (start c .args .s .now)
+filled c =
+    let C : List ℕ = start c .args .s .now in
+    let zeros : List ℕ = replicate 16 0 in
+    c .copy .ensures ∙ ap (λ (k : ℕ). C ++ drop k zeros) (zero-add (length C)) ∙ fill-over 16 C (omega arith) (omega arith)
 
 returns : tie.Need-returns
 returns c =
     let a = c .before .before .args in
     last-long (E (blocks (a .k))) (a .delta) (a .s .now) (c .if1 .taken)
 
-fill-requires : tie.Need-fill-requires
-fill-requires c κs = search needs
+slice-aggregate-copy : tie.Need-slice-aggregate-copy
+slice-aggregate-copy c = search needs
+
+copy-requires : tie.Need-copy-requires
+copy-requires c κs = search needs
 
 array-read-x : tie.Need-array-read-x
 array-read-x c = search needs
@@ -42,10 +64,9 @@ same-length c = search needs
 
 returns-2 : tie.Need-returns-2
 returns-2 c =
-    let a = c .before .before .before .before .before .before .before .args in
-    let x = c .before .before .before .fill in
+    let a = start (copied c) .args in
     let e = c .before .e in
-    last-short (E (blocks (a .k))) (a .delta) (a .s .now) (x .result) (e .result) (omega arith) (omega arith) (x .ensures)
+    last-short (E (blocks (a .k))) (a .delta) (a .s .now) (copied c .copy .last .0) (e .result) (omega arith) (omega arith) (filled (copied c))
     (e .ensures ∙ ap (E (blocks (a .k)) (row 0) 3) (c .before .before .xor .ensures)) (search needs)
 
 pub last-step-spec : {M : Type 1} → statement M
@@ -53,7 +74,8 @@ last-step-spec =
     tie.close
     (tie.spec
     returns
-    fill-requires
+    slice-aggregate-copy
+    copy-requires
     array-read-x
     array-write-x
     xor-requires

@@ -1,71 +1,56 @@
--- `tiny::pad` meets its contract. The invariant: p is the first i half-bytes of r, and zeros.
-use mathlib.Core.List.{_∷_, _++_}
-use mathlib.Core.Path.{_≡_, refl, ap, _∙_}
-use Prim.Native.Nat.{ℕ, _+_, _-_, _≤_}
+-- `tiny::pad` meets its contract: the half-bytes are put over the front of zeros, and 8 after them.
+use mathlib.Core.List.{List, _++_}
+use mathlib.Core.Path.{_≡_, ap, sym, _∙_}
+use Prim.Native.Nat.{ℕ}
+use native.Mathlib.Nat.{zero-add}
 use native.Mathlib.Omega.{arith}
 use borrow.Author.Needs.{needs}
-use lib.ListN.{length, take, replicate}
+use lib.ListN.{length, take, drop, set, replicate}
 use lib.Seq.{length-take-le}
-use Rattle.laws.proofs.HalfBytes.{half10*}
-use Rattle.tiny.proofs.Filling.{put, put-next}
+use Rattle.laws.proofs.Padding.{mark-over}
+use Rattle.tiny.specs.HalfBytes.{half10*}
 use Rattle.tiny.proofs.pad.Statement.{statement}
 use Rattle.tiny.proofs.pad.Tie as tie
 
-abbrev Inv-loop : tie.InvT-loop
-Inv-loop n r p₀ i₀ p i = (i ≤ n) × (p ≡ take i r ++ replicate (32 - i) 0)
+-- the half-bytes, and how many they are
+abbrev R : tie.Start → List ℕ
+R c = take (c .args .n) (c .args .t1)
 
-abbrev μ-loop : tie.MeasureT-loop
-μ-loop n r p₀ i₀ p i = n - i
+long : (c : tie.Start) → length (R c) ≡ c .args .n
+long c = length-take-le (c .args .n) (c .args .t1) (search needs)
 
-loop-holds : tie.Need-loop-holds Inv-loop μ-loop
-loop-holds c = (omega arith, refl)
+slice-aggregate-copy : tie.Need-slice-aggregate-copy
+slice-aggregate-copy c = search needs
 
-array-read-p : tie.Need-array-read-p Inv-loop μ-loop
-array-read-p c = search needs
+array-share-prefix-r : tie.Need-array-share-prefix-r
+array-share-prefix-r c = search needs
 
-array-write-p : tie.Need-array-write-p Inv-loop μ-loop
+slice-aggregate-copy-2 : tie.Need-slice-aggregate-copy-2
+slice-aggregate-copy-2 c = sym (long (c .before .before))
+
+copy-requires : tie.Need-copy-requires
+copy-requires c κs = omega (arith, long (c .before .before))
+
+array-write-p : tie.Need-array-write-p
 array-write-p c = search needs
 
-add-i : tie.Need-add-i Inv-loop μ-loop
-add-i c = search needs
-
-loop-less : tie.Need-loop-less Inv-loop μ-loop
-loop-less c = search needs
-
-loop-again : tie.Need-loop-again Inv-loop μ-loop
-loop-again c =
-    let l = c .before .loop in
-    let r = c .before .before .args .t1 in
-    let long : length r ≡ 32 = search needs in
-    (omega arith, put-next 32 r (l .p) (l .i) (omega arith) (omega arith) (l .inv .1))
-
-array-write-p-2 : tie.Need-array-write-p-2 Inv-loop μ-loop
-array-write-p-2 c = search needs
-
-returns : tie.Need-returns Inv-loop μ-loop
+returns : tie.Need-returns
 unfolding half10*
 returns c =
-    let l = c .before .loop in
-    let a = c .before .before .args in
-    let r = a .t1 in
-    let long : length r ≡ 32 = search needs in
-    let done : l .i ≡ a .n = omega arith in
-    let n : 32 - (a .n + 1) ≡ 31 - length (take (a .n) r) = omega (arith, length-take-le (a .n) r (omega arith)) in
-    put 32 r (l .p) (l .i) 8 (omega arith) (omega arith) (l .inv .1)
-    ∙ ap (λ (k : ℕ). take k r ++ 8 ∷ replicate (32 - (k + 1)) 0) done
-    ∙ ap (λ (k : ℕ). take (a .n) r ++ 8 ∷ replicate k 0) n
+    let at-copy = c .before in
+    let s = at-copy .before .before .before in
+    let P : List ℕ = at-copy .copy .last .0 in
+    let zeros : List ℕ = replicate 32 0 in
+    ap (λ (k : ℕ). set P k 8) (sym (long s))
+    ∙ mark-over 32 8 (R s) P (omega (arith, long s)) (at-copy .copy .ensures ∙ ap (λ (k : ℕ). R s ++ drop k zeros) (zero-add (length (R s))))
 
 pub pad-spec : {M : Type 1} → statement M
 pad-spec =
     tie.close
     (tie.spec
-    Inv-loop
-    μ-loop
-    loop-holds
-    array-read-p
+    slice-aggregate-copy
+    array-share-prefix-r
+    slice-aggregate-copy-2
+    copy-requires
     array-write-p
-    add-i
-    loop-less
-    loop-again
-    array-write-p-2
     returns)

@@ -1,104 +1,128 @@
--- `tiny::put_joined` meets its contract. The invariant: the first i bytes are those of both halves.
-use mathlib.Core.List.{List}
-use mathlib.Core.Path.{_≡_, refl, ap₂, sym, _∙_}
-use Prim.Native.Nat.{ℕ, _+_, _-_, _≤_}
+-- `tiny::put_joined` meets its contract: R and L are put over the front of zeros, one after the other, and their bytes into s.
+use mathlib.Core.List.{List, _++_}
+use mathlib.Core.Path.{_≡_, ap, ap₂, sym, _∙_}
+use Prim.Native.Nat.{ℕ, _+_}
 use native.Mathlib.Omega.{arith}
 use borrow.Author.Needs.{needs}
-use lib.ListN.{length, length-set}
-use Rattle.paper.specs.Figure5.{joined}
-use Rattle.laws.proofs.Fronts.{Front, front-more, front-all}
-use Rattle.laws.proofs.HalfBytes.{wholeBytes, byteOf, wholeBytes-digits, wholeBytes-at}
-use Rattle.tiny.specs.Firsts.{firsts}
-use Rattle.tiny.proofs.Filling.{joined-long}
+use lib.ListN.{length, take, length-append}
+use lib.Seq.{length-take-le, take-at}
+use Rattle.tiny.specs.HalfBytes.{wholeBytes}
 use Rattle.tiny.proofs.put_joined.Statement.{statement}
 use Rattle.tiny.proofs.put_joined.Tie as tie
 
-abbrev Inv-loop : tie.InvT-loop
-Inv-loop t s₀ n i₀ s i = (i ≤ n) × Front (wholeBytes (joined (firsts n t))) s i × (length s ≡ length s₀)
+-- P has R in front, and Q is P with L after R
+one-after-other :
+    (n : ℕ) (R L P Q Y Z : List ℕ) → length R ≡ n → length L ≡ n → P ≡ R ++ Y → Q ≡ take n P ++ L ++ Z → take (n + n) Q ≡ R ++ L
+one-after-other n R L P Q Y Z r l p q =
+    ap (take (n + n)) (q ∙ ap (λ (X : List ℕ). X ++ L ++ Z) (ap (take n) p ∙ take-at R Y n r))
+    ∙ take-at (R ++ L) Z (n + n) (length-append R L ∙ ap₂ _+_ r l)
 
-abbrev μ-loop : tie.MeasureT-loop
-μ-loop t s₀ n i₀ s i = n - i
+abbrev n : tie.Start → ℕ
+n c = length (c .args .s .now)
 
-loop-holds : tie.Need-loop-holds Inv-loop μ-loop
-loop-holds c =
-    let a = c .before .args in
-    let n : ℕ = length (a .s .now) in
-    let r : length (a .t .r) ≡ 32 = search needs in
-    let l : length (a .t .l) ≡ 32 = search needs in
-    let long : length (joined (firsts n (a .t))) ≡ n + n = joined-long n (a .t .r) (a .t .l) (omega arith) (omega arith) in
-    (omega arith, record { long = sym (wholeBytes-digits n _ long .len); same = refl }, refl)
+abbrev R : tie.Start → List ℕ
+R c = take (n c) (c .args .t .r)
 
-mul-joined-at : tie.Need-mul-joined-at Inv-loop μ-loop
-mul-joined-at c = search needs
+abbrev L : tie.Start → List ℕ
+L c = take (n c) (c .args .t .l)
 
-joined-at-requires : tie.Need-joined-at-requires Inv-loop μ-loop
-joined-at-requires c κs = search needs
+R-long : (c : tie.Start) → length (R c) ≡ n c
+R-long c =
+    let full : length (c .args .t .r) ≡ 32 = search needs in
+    length-take-le (n c) (c .args .t .r) (omega arith)
 
-mul-joined-at-2 : tie.Need-mul-joined-at-2 Inv-loop μ-loop
-mul-joined-at-2 c = search needs
+L-long : (c : tie.Start) → length (L c) ≡ n c
+L-long c =
+    let full : length (c .args .t .l) ≡ 32 = search needs in
+    length-take-le (n c) (c .args .t .l) (omega arith)
 
-add-joined-at : tie.Need-add-joined-at Inv-loop μ-loop
-add-joined-at c = search needs
+-- from each call to the place before it
+abbrev start : tie.After-r2 → tie.Start
+start c = c .before .before .before .before .before
 
-joined-at-requires-2 : tie.Need-joined-at-requires-2 Inv-loop μ-loop
-joined-at-requires-2 c κs = search needs
+abbrev first : tie.After-l2 → tie.After-copy
+first c = c .before .before .before
 
-byte-of-requires : tie.Need-byte-of-requires Inv-loop μ-loop
-byte-of-requires c κs = search needs
+abbrev second : tie.After-h5 → tie.After-copy2
+second c = c .before .before .before
 
-slice-write-s : tie.Need-slice-write-s Inv-loop μ-loop
-slice-write-s c = search needs
+abbrev start-2 : tie.After-l2 → tie.Start
+start-2 c = start (first c .before)
 
-add-i : tie.Need-add-i Inv-loop μ-loop
-add-i c = search needs
+both : (c : tie.After-copy2) → take (n (start-2 (c .before)) + n (start-2 (c .before))) (c .copy2 .last .0) ≡ R (start-2 (c .before)) ++ L (start-2 (c .before))
+both c =
+    let s = start-2 (c .before) in
+    let f = first (c .before) in
+    one-after-other (n s) (R s) (L s) (f .copy .last .0) (c .copy2 .last .0) _ _ (R-long s) (L-long s) (f .copy .ensures) (c .copy2 .ensures)
 
-loop-less : tie.Need-loop-less Inv-loop μ-loop
-loop-less c = search needs
+both-long : (c : tie.After-copy2) → length (take (n (start-2 (c .before)) + n (start-2 (c .before))) (c .copy2 .last .0)) ≡ n (start-2 (c .before)) + n (start-2 (c .before))
+both-long c =
+    let s = start-2 (c .before) in
+    ap length (both c) ∙ length-append (R s) (L s) ∙ ap₂ _+_ (R-long s) (L-long s)
 
-loop-again : tie.Need-loop-again Inv-loop μ-loop
-loop-again c =
-    let l = c .before .before .before .before .loop in
-    let a = c .before .before .before .before .before .before .args in
-    let n : ℕ = length (a .s .now) in
-    let H : List ℕ = joined (firsts n (a .t)) in
-    let lr : length (a .t .r) ≡ 32 = search needs in
-    let ll : length (a .t .l) ≡ 32 = search needs in
-    let long : length H ≡ n + n = joined-long n (a .t .r) (a .t .l) (omega arith) (omega arith) in (
-      omega arith,
-      front-more _ (l .inv .1) (omega (arith, wholeBytes-digits n H long .len))
-          (c .byte-of .ensures ∙ ap₂ byteOf (c .before .before .joined-at .ensures) (c .before .joined-at2 .ensures) ∙ sym (wholeBytes-at H (l .i) (omega (arith, long)))),
-      length-set (l .s) (l .i) (c .byte-of .result) ∙ l .inv .2,
-    )
+slice-aggregate-copy : tie.Need-slice-aggregate-copy
+slice-aggregate-copy c = search needs
 
-same-length : tie.Need-same-length Inv-loop μ-loop
-same-length c = c .before .loop .inv .2
+array-share-prefix-r : tie.Need-array-share-prefix-r
+array-share-prefix-r c =
+    let full : length (c .before .before .before .before .args .t .r) ≡ 32 = search needs in
+    omega arith
 
-returns : tie.Need-returns Inv-loop μ-loop
+slice-aggregate-copy-2 : tie.Need-slice-aggregate-copy-2
+slice-aggregate-copy-2 c = sym (R-long (start c))
+
+copy-requires : tie.Need-copy-requires
+copy-requires c κs = omega (arith, R-long (start c))
+
+slice-aggregate-copy-3 : tie.Need-slice-aggregate-copy-3
+slice-aggregate-copy-3 c = search needs
+
+array-share-prefix-l : tie.Need-array-share-prefix-l
+array-share-prefix-l c =
+    let full : length (start (c .before .before .before) .args .t .l) ≡ 32 = search needs in
+    omega arith
+
+slice-aggregate-copy-4 : tie.Need-slice-aggregate-copy-4
+slice-aggregate-copy-4 c = sym (L-long (start-2 c))
+
+copy-requires-2 : tie.Need-copy-requires-2
+copy-requires-2 c κs = omega (arith, L-long (start-2 c), first c .copy .kept .0)
+
+add-m : tie.Need-add-m
+add-m c = search needs
+
+array-share-prefix-h : tie.Need-array-share-prefix-h
+array-share-prefix-h c = search needs
+
+slice-aggregate-put-bytes : tie.Need-slice-aggregate-put-bytes
+slice-aggregate-put-bytes c = sym (both-long (second c))
+
+put-bytes-requires : tie.Need-put-bytes-requires
+put-bytes-requires c κs = both-long (second c)
+
+same-length : tie.Need-same-length
+same-length c = search needs
+
+returns : tie.Need-returns
 returns c =
-    let l = c .before .loop in
-    let a = c .before .before .before .args in
-    let n : ℕ = length (a .s .now) in
-    let lr : length (a .t .r) ≡ 32 = search needs in
-    let ll : length (a .t .l) ≡ 32 = search needs in
-    let long : length (joined (firsts n (a .t))) ≡ n + n = joined-long n (a .t .r) (a .t .l) (omega arith) (omega arith) in
-    front-all (l .inv .1) (wholeBytes-digits n _ long .len ∙ omega arith)
+    let at-put = c .before .before in
+    at-put .put-bytes .ensures ∙ ap wholeBytes (both (second (at-put .before)))
 
 pub put-joined-spec : {M : Type 1} → statement M
 put-joined-spec =
     tie.close
     (tie.spec
-    Inv-loop
-    μ-loop
-    loop-holds
-    mul-joined-at
-    joined-at-requires
-    mul-joined-at-2
-    add-joined-at
-    joined-at-requires-2
-    byte-of-requires
-    slice-write-s
-    add-i
-    loop-less
-    loop-again
+    slice-aggregate-copy
+    array-share-prefix-r
+    slice-aggregate-copy-2
+    copy-requires
+    slice-aggregate-copy-3
+    array-share-prefix-l
+    slice-aggregate-copy-4
+    copy-requires-2
+    add-m
+    array-share-prefix-h
+    slice-aggregate-put-bytes
+    put-bytes-requires
     same-length
     returns)

@@ -1,38 +1,32 @@
 -- `tiny::turn` meets its contract.
-use mathlib.Core.List.{List}
-use mathlib.Core.Path.{ap, _∙_}
-use Prim.Native.Nat.{ℕ}
+use Prim.Native.Nat.{_*_}
 use borrow.Author.Needs.{needs}
 use lib.ListN.{take}
-use Rattle.paper.specs.Strings.{Bytes, _⊕_}
-use Rattle.laws.proofs.HalfBytes.{halfBytes, halfTurn}
-use Rattle.tiny.proofs.Filling.{take-⊕}
+use Rattle.paper.specs.Figure6.{E}
+use Rattle.paper.specs.Figure5.{tinyIndex}
+use Rattle.tbc.specs.Meaning.{blocks}
+use Rattle.tiny.proofs.AllTurns.{one-turn}
 use Rattle.tiny.proofs.turn.Statement.{statement}
 use Rattle.tiny.proofs.turn.Tie as tie
+
+abbrev start : tie.After-e-of-turn → tie.Start
+start c = c .before .before .before
 
 e-of-turn-requires : tie.Need-e-of-turn-requires
 e-of-turn-requires c κs = search needs
 
-slice-aggregate-unpack : tie.Need-slice-aggregate-unpack
-slice-aggregate-unpack c = search needs
+slice-aggregate-add : tie.Need-slice-aggregate-add
+slice-aggregate-add c = search needs
 
-unpack-requires : tie.Need-unpack-requires
-unpack-requires c κs = search needs
-
-xor-requires : tie.Need-xor-requires
-xor-requires c κs = search needs
+add-requires : tie.Need-add-requires
+add-requires c κs = search needs
 
 returns : tie.Need-returns
-unfolding halfTurn
 returns c =
-    let a = c .before .before .before .before .before .before .args in
-    ap (λ (X : List ℕ). record { L = take (a .n) (a .s .r); R = X })
-    (ap (take (a .n)) (c .xor .ensures)
-    ∙ take-⊕ (a .n) (a .s .l) (c .before .unpack .result)
-    ∙ ap (λ (X : List ℕ). take (a .n) (a .s .l) ⊕ X)
-    (c .before .unpack .ensures ∙ ap (λ (Y : Bytes). take (a .n) (halfBytes Y)) (c .before .before .before .e-of-turn .ensures)))
+    let at-e = c .before .before in
+    let a = start at-e .args in
+    one-turn (E (blocks (a .k))) (a .delta) (a .n) (tinyIndex (8 * a .n)) (a .i) (take (a .n) (a .s .l)) (take (a .n) (a .s .r)) _ _
+    (at-e .e-of-turn .ensures) (c .add .ensures)
 
 pub turn-spec : {M : Type 1} → statement M
-turn-spec =
-    tie.close
-    (tie.spec e-of-turn-requires slice-aggregate-unpack unpack-requires xor-requires returns)
+turn-spec = tie.close (tie.spec e-of-turn-requires slice-aggregate-add add-requires returns)

@@ -1,22 +1,26 @@
--- `tiny::turns_down` meets its contract. The invariant: the turns below i make of t what all turns make of s.
-use mathlib.Core.Path.{_≡_, refl, ap, sym, _∙_}
-use Prim.Native.Nat.{ℕ, _-_, _*_}
+-- `tiny::turns_down` meets its contract. The invariant: the turns that are left make of t what all turns make of s.
+use mathlib.Core.Path.{_≡_, refl, ap, _∙_}
+use Prim.Native.Nat.{ℕ, _*_}
 use native.Mathlib.Omega.{arith}
 use borrow.Author.Needs.{needs}
 use Rattle.paper.specs.Figure6.{E}
 use Rattle.paper.specs.Figure5.{tinyIndex}
-use Rattle.laws.proofs.HalfBytes.{halfTurnsDown}
 use Rattle.tbc.specs.Meaning.{blocks}
+use Rattle.tiny.specs.HalfBytes.{halfTurnsDown}
 use Rattle.tiny.specs.Firsts.{firsts}
 use Rattle.tiny.proofs.AllTurns.{down-none, down-more}
 use Rattle.tiny.proofs.turns_down.Statement.{statement}
 use Rattle.tiny.proofs.turns_down.Tie as tie
 
 abbrev Inv-loop : tie.InvT-loop
-Inv-loop k delta n t₀ i₀ t i = halfTurnsDown (E (blocks k)) delta n (tinyIndex (8 * n)) i (firsts n t) ≡ halfTurnsDown (E (blocks k)) delta n (tinyIndex (8 * n)) i₀ (firsts n t₀)
+Inv-loop k delta n t₀ left₀ t left =
+    halfTurnsDown (E (blocks k)) delta n (tinyIndex (8 * n)) left (firsts n t) ≡ halfTurnsDown (E (blocks k)) delta n (tinyIndex (8 * n)) left₀ (firsts n t₀)
 
 abbrev μ-loop : tie.MeasureT-loop
-μ-loop k delta n t₀ i₀ t i = i
+μ-loop k delta n t₀ left₀ t left = left
+
+abbrev start : tie.At-loop Inv-loop μ-loop → tie.Start Inv-loop μ-loop
+start c = c .before .before
 
 rounds-requires : tie.Need-rounds-requires Inv-loop μ-loop
 rounds-requires c κs = search needs
@@ -24,8 +28,8 @@ rounds-requires c κs = search needs
 loop-holds : tie.Need-loop-holds Inv-loop μ-loop
 loop-holds c = refl
 
-sub-i : tie.Need-sub-i Inv-loop μ-loop
-sub-i c = search needs
+sub-left : tie.Need-sub-left Inv-loop μ-loop
+sub-left c = search needs
 
 turn-requires : tie.Need-turn-requires Inv-loop μ-loop
 turn-requires c κs = search needs
@@ -35,25 +39,21 @@ loop-less c = search needs
 
 loop-again : tie.Need-loop-again Inv-loop μ-loop
 loop-again c =
-    let l = c .before .before .loop in
-    let a = c .before .before .before .before .args in
-    let f = E (blocks (a .k)) in
-    let j : ℕ = tinyIndex (8 * a .n) in
-    ap (halfTurnsDown f (a .delta) (a .n) j (l .i - 1)) (c .turn .ensures)
-    ∙ sym (down-more f (a .delta) (a .n) j (firsts (a .n) (l .t)) (l .i) (c .before .loop-test .taken))
-    ∙ l .inv
+    let k = c .before .before in
+    let a = start k .args in
+    down-more (E (blocks (a .k))) (a .delta) (a .n) (tinyIndex (8 * a .n)) (k .loop .left) (firsts (a .n) (k .loop .t)) _ _ (c .before .loop-test .taken) (k .loop .inv) (c .turn .ensures)
 
 returns : tie.Need-returns Inv-loop μ-loop
 returns c =
-    let l = c .before .loop in
-    let a = c .before .before .before .args in
+    let k = c .before in
+    let a = start k .args in
     let f = E (blocks (a .k)) in
     let j : ℕ = tinyIndex (8 * a .n) in
-    let done : 0 ≡ l .i = omega arith in
-    sym (down-none f (a .delta) (a .n) j (firsts (a .n) (l .t)))
-    ∙ ap (λ (k : ℕ). halfTurnsDown f (a .delta) (a .n) j k (firsts (a .n) (l .t))) done
-    ∙ l .inv
-    ∙ ap (λ (k : ℕ). halfTurnsDown f (a .delta) (a .n) j k (firsts (a .n) (a .s))) (c .before .before .rounds .ensures)
+    let done : 0 ≡ k .loop .left = omega arith in
+    down-none f (a .delta) (a .n) j (firsts (a .n) (k .loop .t)) _
+    (ap (λ (i : ℕ). halfTurnsDown f (a .delta) (a .n) j i (firsts (a .n) (k .loop .t))) done
+    ∙ k .loop .inv
+    ∙ ap (λ (i : ℕ). halfTurnsDown f (a .delta) (a .n) j i (firsts (a .n) (a .s))) (k .before .rounds .ensures))
 
 pub turns-down-spec : {M : Type 1} → statement M
 turns-down-spec =
@@ -63,7 +63,7 @@ turns-down-spec =
     μ-loop
     rounds-requires
     loop-holds
-    sub-i
+    sub-left
     turn-requires
     loop-less
     loop-again

@@ -1,12 +1,12 @@
--- `tiny::turns_up` meets its contract. The invariant: t is s after the turns before i.
-use mathlib.Core.Path.{_≡_, ap, sym, _∙_}
+-- `tiny::turns_up` meets its contract. The invariant: t is s after the turns below i.
+use mathlib.Core.Path.{_≡_, ap, _∙_}
 use Prim.Native.Nat.{ℕ, _-_, _*_, _≤_}
 use native.Mathlib.Omega.{arith}
 use borrow.Author.Needs.{needs}
 use Rattle.paper.specs.Figure6.{E}
 use Rattle.paper.specs.Figure5.{tinyIndex}
-use Rattle.laws.proofs.HalfBytes.{halfTurn, halfTurnsUp}
 use Rattle.tbc.specs.Meaning.{blocks}
+use Rattle.tiny.specs.HalfBytes.{halfTurnsUp}
 use Rattle.tiny.specs.Firsts.{firsts}
 use Rattle.tiny.proofs.AllTurns.{up-none, up-more}
 use Rattle.tiny.proofs.turns_up.Statement.{statement}
@@ -18,13 +18,16 @@ Inv-loop k delta n count t₀ i₀ t i = (i ≤ count) × (firsts n t ≡ halfTu
 abbrev μ-loop : tie.MeasureT-loop
 μ-loop k delta n count t₀ i₀ t i = count - i
 
+abbrev start : tie.At-loop Inv-loop μ-loop → tie.Start Inv-loop μ-loop
+start c = c .before .before
+
 rounds-requires : tie.Need-rounds-requires Inv-loop μ-loop
 rounds-requires c κs = search needs
 
 loop-holds : tie.Need-loop-holds Inv-loop μ-loop
 loop-holds c =
     let a = c .before .args in
-    (omega arith, sym (up-none (E (blocks (a .k))) (a .delta) (a .n) (tinyIndex (8 * a .n)) (firsts (a .n) (a .s))))
+    (omega arith, up-none (E (blocks (a .k))) (a .delta) (a .n) (tinyIndex (8 * a .n)) (firsts (a .n) (a .s)))
 
 turn-requires : tie.Need-turn-requires Inv-loop μ-loop
 turn-requires c κs = search needs
@@ -37,21 +40,17 @@ loop-less c = search needs
 
 loop-again : tie.Need-loop-again Inv-loop μ-loop
 loop-again c =
-    let l = c .before .before .loop in
-    let a = c .before .before .before .before .args in
-    let f = E (blocks (a .k)) in
-    let j : ℕ = tinyIndex (8 * a .n) in (
-      omega arith,
-      c .turn .ensures ∙ ap (halfTurn f (a .delta) (a .n) j (l .i)) (l .inv .1) ∙ sym (up-more f (a .delta) (a .n) j (firsts (a .n) (a .s)) (l .i)),
-    )
+    let k = c .before .before in
+    let a = start k .args in
+    (omega arith, up-more (E (blocks (a .k))) (a .delta) (a .n) (tinyIndex (8 * a .n)) (k .loop .i) (firsts (a .n) (a .s)) _ _ (k .loop .inv .1) (c .turn .ensures))
 
 returns : tie.Need-returns Inv-loop μ-loop
 returns c =
-    let l = c .before .loop in
-    let a = c .before .before .before .args in
-    let n = c .before .before .rounds in
-    let done : l .i ≡ n .result = omega arith in
-    l .inv .1 ∙ ap (λ (k : ℕ). halfTurnsUp (E (blocks (a .k))) (a .delta) (a .n) (tinyIndex (8 * a .n)) k (firsts (a .n) (a .s))) (done ∙ n .ensures)
+    let k = c .before in
+    let a = start k .args in
+    let done : k .loop .i ≡ k .before .rounds .result = omega arith in
+    k .loop .inv .1
+    ∙ ap (λ (i : ℕ). halfTurnsUp (E (blocks (a .k))) (a .delta) (a .n) (tinyIndex (8 * a .n)) i (firsts (a .n) (a .s))) (done ∙ k .before .rounds .ensures)
 
 pub turns-up-spec : {M : Type 1} → statement M
 turns-up-spec =

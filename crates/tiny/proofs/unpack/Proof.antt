@@ -1,69 +1,37 @@
--- `tiny::unpack` meets its contract. The invariant: the first i half-bytes are those of s from the place on.
+-- `tiny::unpack` meets its contract: what is added to zeros.
 use mathlib.Core.List.{List}
-use mathlib.Core.Path.{_≡_, refl, ap, sym, _∙_}
-use Prim.Native.Nat.{ℕ, _-_, _≤_}
+use mathlib.Core.Path.{_≡_, ap, sym, _∙_}
+use Prim.Native.Nat.{ℕ, _+_, _-_, _≤_}
 use native.Mathlib.Omega.{arith}
 use borrow.Author.Needs.{needs}
-use lib.ListN.{length, take, drop, length-set, length-drop}
-use lib.Seq.{getD-drop}
-use Rattle.laws.proofs.Fronts.{take-more}
-use Rattle.laws.proofs.HalfBytes.{halfBytes, length-halfBytes}
+use lib.ListN.{length, take, drop, replicate, length-replicate, length-drop, replicate-append-replicate}
+use lib.Seq.{take-at, length-take-le}
+use Rattle.paper.specs.Strings.{_⊕_}
+use Rattle.laws.proofs.Strings.{⊕-comm, ⊕-zeros}
+use Rattle.tiny.specs.HalfBytes.{halfBytes}
+use Rattle.tiny.proofs.ByteHalves.{length-halfBytes}
 use Rattle.tiny.proofs.unpack.Statement.{statement}
 use Rattle.tiny.proofs.unpack.Tie as tie
 
-abbrev Inv-loop : tie.InvT-loop
-Inv-loop s at n r₀ i₀ r i = (i ≤ n) × (take i r ≡ take i (drop at (halfBytes s))) × (length r ≡ 32)
+first-zeros : (n k : ℕ) → n ≤ k → take {A = ℕ} n (replicate k 0) ≡ replicate n 0
+first-zeros n k h =
+    let e : n + (k - n) ≡ k = omega arith in
+    ap (λ (m : ℕ). take {A = ℕ} n (replicate m 0)) (sym e)
+    ∙ ap (take n) (sym (replicate-append-replicate n (k - n) 0))
+    ∙ take-at (replicate n 0) (replicate (k - n) 0) n (length-replicate n 0)
 
-abbrev μ-loop : tie.MeasureT-loop
-μ-loop s at n r₀ i₀ r i = n - i
+to-zeros : (n k : ℕ) (X R : List ℕ) → n ≤ k → length X ≤ n → R ≡ take n (replicate k 0) ⊕ X → R ≡ X
+to-zeros n k X R h g e = e ∙ ap (λ (Z : List ℕ). Z ⊕ X) (first-zeros n k h) ∙ ⊕-comm (replicate n 0) X ∙ ⊕-zeros n X g
 
-loop-holds : tie.Need-loop-holds Inv-loop μ-loop
-loop-holds c = (omega arith, refl, refl)
+add-requires : tie.Need-add-requires
+add-requires c κs = search needs
 
-add-half-byte : tie.Need-add-half-byte Inv-loop μ-loop
-add-half-byte c = search needs
-
-half-byte-requires : tie.Need-half-byte-requires Inv-loop μ-loop
-half-byte-requires c κs = search needs
-
-array-write-r : tie.Need-array-write-r Inv-loop μ-loop
-array-write-r c = search needs
-
-add-i : tie.Need-add-i Inv-loop μ-loop
-add-i c = search needs
-
-loop-less : tie.Need-loop-less Inv-loop μ-loop
-loop-less c = search needs
-
-loop-again : tie.Need-loop-again Inv-loop μ-loop
-loop-again c =
-    let l = c .before .before .loop in
-    let a = c .before .before .before .before .args in
-    let H : List ℕ = halfBytes (a .s .now) in (
-      omega arith,
-      take-more (l .r) (drop (a .at) H) (l .i) _ (omega (arith, l .inv .2)) (omega (arith, length-drop (a .at) H, length-halfBytes (a .s .now))) (l .inv .1)
-          (c .half-byte .ensures ∙ sym (getD-drop (a .at) H (l .i) 0)),
-      length-set (l .r) (l .i) (c .half-byte .result) ∙ l .inv .2,
-    )
-
-returns : tie.Need-returns Inv-loop μ-loop
+returns : tie.Need-returns
 returns c =
-    let l = c .before .loop in
-    let a = c .before .before .before .args in
-    let done : l .i ≡ a .n = omega arith in
-    ap (λ (k : ℕ). take k (l .r)) (sym done) ∙ l .inv .1 ∙ ap (λ (k : ℕ). take k (drop (a .at) (halfBytes (a .s .now)))) done
+    let a = c .before .before .args in
+    let H : List ℕ = drop (a .at) (halfBytes (a .s .now)) in
+    let long : length (take (a .n) H) ≡ a .n = length-take-le (a .n) H (omega (arith, length-drop (a .at) (halfBytes (a .s .now)), length-halfBytes (a .s .now))) in
+    to-zeros (a .n) 32 (take (a .n) H) _ (omega arith) (omega arith) (c .add .ensures)
 
 pub unpack-spec : {M : Type 1} → statement M
-unpack-spec =
-    tie.close
-    (tie.spec
-    Inv-loop
-    μ-loop
-    loop-holds
-    add-half-byte
-    half-byte-requires
-    array-write-r
-    add-i
-    loop-less
-    loop-again
-    returns)
+unpack-spec = tie.close (tie.spec add-requires returns)
