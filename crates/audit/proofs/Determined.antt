@@ -24,6 +24,7 @@ use Rattle.block.proofs.same_bytes.Reads as block-same-bytes
 use Rattle.aes.proofs.aes4.Reads as aes-aes4
 use Rattle.aes.proofs.aes10.Reads as aes-aes10
 use Rattle.tbc.proofs.key_of.Reads as tbc-key-of
+use Rattle.tbc.proofs.Pair.table.Reads as tbc-pair-table
 use Rattle.tbc.proofs.Pair.at.Reads as tbc-pair-at
 use Rattle.tbc.proofs.Pair.string.Reads as tbc-pair-string
 use Rattle.tbc.proofs.e.Reads as tbc-e
@@ -31,6 +32,7 @@ use Rattle.tbc.proofs.e_running.Reads as tbc-e-running
 use Rattle.tbc.proofs.next_power.Reads as tbc-next-power
 use Rattle.answer.proofs.StretchBytes.bits.Reads as answer-bits
 use Rattle.header.proofs.entry.Reads as header-entry
+use Rattle.header.proofs.count.Reads as header-count
 use Rattle.header.proofs.read.Reads as header-read
 use Rattle.header.proofs.log_header.Reads as header-log-header
 use Rattle.hash.proofs.string_hash.Reads as hash-string-hash
@@ -109,6 +111,9 @@ aes-aes10-determined κs a z w e f p q = one p q
 pub tbc-key-of-determined : (κs : _) (a : _) (z w : _) (e f : _) → tbc-key-of.Learnt κs a z e → tbc-key-of.Learnt κs a w f → z ≡ w
 tbc-key-of-determined κs a z w e f p q = one-key z w _ p q
 
+pub tbc-pair-table-determined : (κs : _) (a : _) (z w : _) (e f : _) → tbc-pair-table.Learnt κs a z e → tbc-pair-table.Learnt κs a w f → z ≡ w
+tbc-pair-table-determined κs a z w e f p q = one p q
+
 pub tbc-pair-at-determined : (κs : _) (a : _) (z w : _) (e f : _) → tbc-pair-at.Learnt κs a z e → tbc-pair-at.Learnt κs a w f → z ≡ w
 tbc-pair-at-determined κs a z w e f p q = one p q
 
@@ -133,6 +138,9 @@ answer-bits-determined κs a z w e f p q = λ i. record { 0 = one p q i }
 
 pub header-entry-determined : (κs : _) (a : _) (z w : _) (e f : _) → header-entry.Learnt κs a z e → header-entry.Learnt κs a w f → z ≡ w
 header-entry-determined κs a z w e f p q = one (p .0) (q .0)
+
+pub header-count-determined : (κs : _) (a : _) (z w : _) (e f : _) → header-count.Learnt κs a z e → header-count.Learnt κs a w f → z ≡ w
+header-count-determined κs a z w e f p q = one (p .0) (q .0)
 
 pub header-read-determined : (κs : _) (a : _) (z w : _) (e f : _) → header-read.Learnt κs a z e → header-read.Learnt κs a w f → z ≡ w
 header-read-determined κs a z w e f p q = one p q
