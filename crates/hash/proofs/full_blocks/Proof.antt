@@ -1,12 +1,11 @@
 -- `hash::full_blocks` meets its contract. The invariant: the blocks before the j-th are summed, and the power is the j-th's.
 use mathlib.Core.Bool.{false}
-use mathlib.Core.List.{List}
 use mathlib.Core.Path.{_≡_, refl, ap, ap₂, sym, _∙_}
 use Prim.Native.Nat.{ℕ, _+_, _-_, _*_, _/_, _≤_}
 use native.Mathlib.Omega.{arith}
 use borrow.Author.Needs.{needs}
 use lib.ListN.{length, take, drop}
-use Rattle.paper.specs.Strings.{_⊕_, sum}
+use Rattle.paper.specs.Strings.{Bytes, _⊕_, sum}
 use Rattle.paper.specs.Section7.{twoTo}
 use Rattle.paper.specs.Figure6.{row, E, blockAt}
 use Rattle.laws.proofs.Joins.{sum-more}
@@ -25,12 +24,39 @@ Inv-loop k i t pairs total₀ power₀ at₀ j₀ total power at j =
 abbrev μ-loop : tie.MeasureT-loop
 μ-loop k i t pairs total₀ power₀ at₀ j₀ total power at j = length t - at
 
+abbrev start : tie.After-string Inv-loop μ-loop → tie.Start Inv-loop μ-loop
+start c = c .before .before
+
+abbrev begun : tie.At-loop Inv-loop μ-loop → tie.After-string Inv-loop μ-loop
+begun c = c .before .before
+
+abbrev looped : tie.After-at Inv-loop μ-loop → tie.At-loop Inv-loop μ-loop
+looped c = c .before .before .before
+
+-- the j-th term of the sum
+abbrev term : tie.At-loop Inv-loop μ-loop → ℕ → Bytes
+term c j = let a = start (begun c) .args in E (blocks (a .k)) (row (2 + a .i)) j (blockAt (a .t .now) j)
+
+-- the pair that E is called at
+is-pair : (c : tie.After-at Inv-loop μ-loop) → c .at .result ≡ pair false (2 + start (begun (looped c)) .args .i) (looped c .loop .j)
+is-pair c = c .at .ensures ∙ ap (λ (q : Pair). pair (q .0) (q .1) (looped c .loop .j)) (begun (looped c) .string .ensures)
+
+-- what it gives
+is-term : (c : tie.After-e-running Inv-loop μ-loop) → c .e-running .result ≡ term (looped (c .before)) (looped (c .before) .loop .j)
+is-term c =
+    let l = looped (c .before) in
+    let a = start (begun l) .args in
+    let x : c .before .before .load .result ≡ blockAt (a .t .now) (l .loop .j) = c .before .before .load .ensures ∙ ap (λ (n : ℕ). take 16 (drop n (a .t .now))) (l .loop .inv .1) in
+    c .e-running .ensures
+    ∙ at-pair (c .before .at .result) false (2 + a .i) (l .loop .j) (is-pair (c .before)) (blocks (a .k)) _
+    ∙ ap (E (blocks (a .k)) (row (2 + a .i)) (l .loop .j)) x
+
 string-requires : tie.Need-string-requires Inv-loop μ-loop
 string-requires c κs = search needs
 
 loop-holds : tie.Need-loop-holds Inv-loop μ-loop
 loop-holds c =
-    (omega arith, omega arith, omega arith, unfold sum in refl, sym (twoTo-zero (c .before .before .before .args .k .l)))
+    (omega arith, omega arith, omega arith, unfold sum in refl, sym (twoTo-zero (start (c .before) .args .k .l)))
 
 sub-loop : tie.Need-sub-loop Inv-loop μ-loop
 sub-loop c = search needs
@@ -43,9 +69,9 @@ at-requires c κs = search needs
 
 e-running-requires : tie.Need-e-running-requires Inv-loop μ-loop
 e-running-requires c κs =
-    let l = c .before .before .before .loop in
-    let a = c .before .before .before .before .before .before .before .args in
-    running (c .at .result) (2 + a .i) (l .j) (c .at .ensures ∙ ap (λ (q : Pair). pair (q .0) (q .1) (l .j)) (c .before .before .before .before .before .string .ensures)) (a .k) (l .power) (omega arith) (l .inv .0) (l .inv .4)
+    let l = looped c .loop in
+    let a = start (begun (looped c)) .args in
+    running (c .at .result) (2 + a .i) (l .j) (is-pair c) (a .k) (l .power) (omega arith) (l .inv .0) (l .inv .4)
 
 xor-requires : tie.Need-xor-requires Inv-loop μ-loop
 xor-requires c κs = search needs
@@ -64,27 +90,22 @@ loop-less c = search needs
 
 loop-again : tie.Need-loop-again Inv-loop μ-loop
 loop-again c =
-    let l = c .before .before .before .before .before .before .loop in
-    let a = c .before .before .before .before .before .before .before .before .before .before .args in
-    let t : List ℕ = a .t .now in
-    let p = c .before .before .before .at .ensures ∙ ap (λ (q : Pair). pair (q .0) (q .1) (l .j)) (c .before .before .before .before .before .before .before .before .string .ensures) in
-    let x : c .before .before .before .before .load .result ≡ blockAt t (l .j) = c .before .before .before .before .load .ensures ∙ ap (λ (n : ℕ). take 16 (drop n t)) (l .inv .1) in
-    let term = c .before .before .e-running .ensures ∙ at-pair _ false (2 + a .i) (l .j) p (blocks (a .k)) _ ∙ ap (E (blocks (a .k)) (row (2 + a .i)) (l .j)) x in (
+    let e = c .before .before in
+    let s = looped (e .before) in
+    let l = s .loop in (
       omega arith,
       omega (arith, l .inv .1),
       omega arith,
-      c .before .xor .ensures
-          ∙ ap₂ _⊕_ (l .inv .3) term
-          ∙ sym (sum-more (l .j) (λ j. E (blocks (a .k)) (row (2 + a .i)) j (blockAt t j)) (l .inv .0)),
-      c .next-power .ensures ∙ next (l .j) (a .k .l) (l .power) (l .inv .0) (l .inv .4),
+      c .before .xor .ensures ∙ ap₂ _⊕_ (l .inv .3) (is-term e) ∙ sym (sum-more (l .j) (term s) (l .inv .0)),
+      c .next-power .ensures ∙ next (l .j) (start (begun s) .args .k .l) (l .power) (l .inv .0) (l .inv .4),
     )
 
 returns : tie.Need-returns Inv-loop μ-loop
 returns c =
-    let l = c .before .loop in
-    let a = c .before .before .before .before .before .args in
-    let done : l .j - 1 ≡ length (a .t .now) / 16 = omega (arith, l .inv .1, l .inv .2) in
-    l .inv .3 ∙ ap (λ (n : ℕ). sum n (λ j. E (blocks (a .k)) (row (2 + a .i)) j (blockAt (a .t .now) j))) done
+    let s = c .before in
+    let l = s .loop in
+    let count : l .j - 1 ≡ length (start (begun s) .args .t .now) / 16 = omega (arith, l .inv .1, l .inv .2) in
+    l .inv .3 ∙ ap (λ (n : ℕ). sum n (term s)) count
 
 pub full-blocks-spec : {M : Type 1} → statement M
 full-blocks-spec =

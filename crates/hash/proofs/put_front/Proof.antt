@@ -16,6 +16,9 @@ Inv-loop s₀ y n i₀ s i = (i ≤ n) × (s ≡ take i y ++ drop i s₀) × (le
 abbrev μ-loop : tie.MeasureT-loop
 μ-loop s₀ y n i₀ s i = n - i
 
+abbrev start : tie.At-loop Inv-loop μ-loop → tie.Start Inv-loop μ-loop
+start c = c .before .before .before
+
 least-requires : tie.Need-least-requires Inv-loop μ-loop
 least-requires c κs = search needs
 
@@ -37,7 +40,7 @@ loop-less c = search needs
 loop-again : tie.Need-loop-again Inv-loop μ-loop
 loop-again c =
     let l = c .before .loop in
-    let a = c .before .before .before .before .args in
+    let a = start (c .before) .args in
     let n = c .before .before .least .ensures in
     let long : length (a .t2) ≡ 16 = search needs in (
       omega arith,
@@ -52,7 +55,7 @@ returns : tie.Need-returns Inv-loop μ-loop
 unfolding fitted
 returns c =
     let l = c .before .loop in
-    let a = c .before .before .before .before .args in
+    let a = start (c .before) .args in
     let done : l .i ≡ min (length (a .s .now)) 16 = omega (arith, c .before .before .least .ensures) in
     l .inv .1 ∙ ap (λ (k : ℕ). take k (a .t2) ++ drop k (a .s .now)) done
 

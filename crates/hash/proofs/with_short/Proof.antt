@@ -11,6 +11,9 @@ use Rattle.hash.proofs.Rows.{plain-from3}
 use Rattle.hash.proofs.with_short.Statement.{statement}
 use Rattle.hash.proofs.with_short.Tie as tie
 
+abbrev start : tie.After-string → tie.Start
+start c = c .before .before
+
 string-requires : tie.Need-string-requires
 string-requires c κs = search needs
 
@@ -19,7 +22,7 @@ pad-requires c κs = search needs
 
 e-requires : tie.Need-e-requires
 e-requires c κs =
-    let a = c .before .before .before .args in
+    let a = start (c .before) .args in
     plain _ false (2 + a .i) 0 (c .before .string .ensures) (plain-from3 (a .i) (search needs))
 
 xor-requires : tie.Need-xor-requires
@@ -27,8 +30,12 @@ xor-requires c κs = search needs
 
 returns : tie.Need-returns
 returns c =
-    let a = c .before .before .before .before .before .args in
-    let last = c .before .e .ensures ∙ at-pair _ false (2 + a .i) 0 (c .before .before .before .string .ensures) (blocks (a .k)) _ ∙ ap (E (blocks (a .k)) (row (2 + a .i)) 0) (c .before .before .pad .ensures) in
+    let p = c .before .before in
+    let a = start (p .before) .args in
+    let last =
+    c .before .e .ensures
+    ∙ at-pair _ false (2 + a .i) 0 (p .before .string .ensures) (blocks (a .k)) _
+    ∙ ap (E (blocks (a .k)) (row (2 + a .i)) 0) (p .pad .ensures) in
     c .xor .ensures ∙ ap (λ (l : Bytes). a .full ⊕ l) last
 
 pub with-short-spec : {M : Type 1} → statement M
