@@ -1,2 +1,3 @@
 pub mod Arrays
 mod Same
+mod Stores

@@ -10,45 +10,6 @@ use borrow.Author.Needs.{needs}
 use Rattle.aes.proofs.aesenc.Statement.{statement}
 use Rattle.aes.proofs.aesenc.Tie as tie
 
-array-read-a : tie.Need-array-read-a
-array-read-a c = search needs
-
-array-read-b : tie.Need-array-read-b
-array-read-b c = search needs
-
-array-read-c : tie.Need-array-read-c
-array-read-c c = search needs
-
-array-read-d : tie.Need-array-read-d
-array-read-d c = search needs
-
-shifted-column-requires : tie.Need-shifted-column-requires
-shifted-column-requires c κs = search needs
-
-shifted-column-requires-2 : tie.Need-shifted-column-requires-2
-shifted-column-requires-2 c κs = search needs
-
-shifted-column-requires-3 : tie.Need-shifted-column-requires-3
-shifted-column-requires-3 c κs = search needs
-
-shifted-column-requires-4 : tie.Need-shifted-column-requires-4
-shifted-column-requires-4 c κs = search needs
-
-mixed-column-requires : tie.Need-mixed-column-requires
-mixed-column-requires c κs = search needs
-
-mixed-column-requires-2 : tie.Need-mixed-column-requires-2
-mixed-column-requires-2 c κs = search needs
-
-mixed-column-requires-3 : tie.Need-mixed-column-requires-3
-mixed-column-requires-3 c κs = search needs
-
-mixed-column-requires-4 : tie.Need-mixed-column-requires-4
-mixed-column-requires-4 c κs = search needs
-
-add-requires : tie.Need-add-requires
-add-requires c κs = search needs
-
 -- the places where the columns are mixed and where they are shifted, and the start
 abbrev mixings : tie.After-add → tie.After-mixed-column4
 mixings c = c .before
@@ -77,17 +38,17 @@ pub aesenc-spec : {M : Type 1} → statement M
 aesenc-spec =
     tie.close
     (tie.spec
-    array-read-a
-    array-read-b
-    array-read-c
-    array-read-d
-    shifted-column-requires
-    shifted-column-requires-2
-    shifted-column-requires-3
-    shifted-column-requires-4
-    mixed-column-requires
-    mixed-column-requires-2
-    mixed-column-requires-3
-    mixed-column-requires-4
-    add-requires
+    (λ c. search needs)
+    (λ c. search needs)
+    (λ c. search needs)
+    (λ c. search needs)
+    (λ c κs. search needs)
+    (λ c κs. search needs)
+    (λ c κs. search needs)
+    (λ c κs. search needs)
+    (λ c κs. search needs)
+    (λ c κs. search needs)
+    (λ c κs. search needs)
+    (λ c κs. search needs)
+    (λ c κs. search needs)
     returns)

@@ -8,18 +8,6 @@ use borrow.Author.Needs.{needs}
 use Rattle.aes.proofs.columns.Statement.{statement}
 use Rattle.aes.proofs.columns.Tie as tie
 
-column-at-requires : tie.Need-column-at-requires
-column-at-requires c κs = search needs
-
-column-at-requires-2 : tie.Need-column-at-requires-2
-column-at-requires-2 c κs = search needs
-
-column-at-requires-3 : tie.Need-column-at-requires-3
-column-at-requires-3 c κs = search needs
-
-column-at-requires-4 : tie.Need-column-at-requires-4
-column-at-requires-4 c κs = search needs
-
 returns : tie.Need-returns
 returns c =
     let start = c .before .before .before .before in
@@ -30,8 +18,8 @@ pub columns-spec : {M : Type 1} → statement M
 columns-spec =
     tie.close
     (tie.spec
-    column-at-requires
-    column-at-requires-2
-    column-at-requires-3
-    column-at-requires-4
+    (λ c κs. search needs)
+    (λ c κs. search needs)
+    (λ c κs. search needs)
+    (λ c κs. search needs)
     returns)

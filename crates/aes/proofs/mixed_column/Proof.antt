@@ -7,18 +7,6 @@ use borrow.Author.Needs.{needs}
 use Rattle.aes.proofs.mixed_column.Statement.{statement}
 use Rattle.aes.proofs.mixed_column.Tie as tie
 
-doubled-requires : tie.Need-doubled-requires
-doubled-requires c κs = search needs
-
-turned-up-requires : tie.Need-turned-up-requires
-turned-up-requires c κs = search needs
-
-turned-up-requires-2 : tie.Need-turned-up-requires-2
-turned-up-requires-2 c κs = search needs
-
-turned-up-requires-3 : tie.Need-turned-up-requires-3
-turned-up-requires-3 c κs = search needs
-
 returns : tie.Need-returns
 unfolding mixedColumn
 returns c =
@@ -31,4 +19,4 @@ returns c =
 pub mixed-column-spec : {M : Type 1} → statement M
 mixed-column-spec =
     tie.close
-    (tie.spec doubled-requires turned-up-requires turned-up-requires-2 turned-up-requires-3 returns)
+    (tie.spec (λ c κs. search needs) (λ c κs. search needs) (λ c κs. search needs) (λ c κs. search needs) returns)

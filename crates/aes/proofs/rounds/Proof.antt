@@ -18,42 +18,9 @@ Inv-loop k t s₀ i₀ s i = (stateBytes s ≡ rounds (take (i - 1) (drop 1 k)) 
 abbrev μ-loop : tie.MeasureT-loop
 μ-loop k t s₀ i₀ s i = length k - i
 
-sboxes-requires : tie.Need-sboxes-requires Inv-loop μ-loop
-sboxes-requires c κs = search needs
-
-shared-slice-copy-out-k0 : tie.Need-shared-slice-copy-out-k0 Inv-loop μ-loop
-shared-slice-copy-out-k0 c = search needs
-
-columns-requires : tie.Need-columns-requires Inv-loop μ-loop
-columns-requires c κs = search needs
-
-columns-requires-2 : tie.Need-columns-requires-2 Inv-loop μ-loop
-columns-requires-2 c κs = search needs
-
-add-requires : tie.Need-add-requires Inv-loop μ-loop
-add-requires c κs = search needs
-
 loop-holds : tie.Need-loop-holds Inv-loop μ-loop
 unfolding rounds
 loop-holds c = (refl, omega arith, omega arith)
-
-mul-ki : tie.Need-mul-ki Inv-loop μ-loop
-mul-ki c = search needs
-
-shared-slice-copy-out-ki : tie.Need-shared-slice-copy-out-ki Inv-loop μ-loop
-shared-slice-copy-out-ki c = search needs
-
-columns-requires-3 : tie.Need-columns-requires-3 Inv-loop μ-loop
-columns-requires-3 c κs = search needs
-
-aesenc-requires : tie.Need-aesenc-requires Inv-loop μ-loop
-aesenc-requires c κs = search needs
-
-add-i : tie.Need-add-i Inv-loop μ-loop
-add-i c = search needs
-
-loop-less : tie.Need-loop-less Inv-loop μ-loop
-loop-less c = search needs
 
 -- the loop's test, from the end of a turn, and the start
 abbrev looped : tie.After-aesenc Inv-loop μ-loop → tie.At-loop Inv-loop μ-loop
@@ -77,9 +44,6 @@ loop-again c =
       omega arith,
     )
 
-state-bytes-requires : tie.Need-state-bytes-requires Inv-loop μ-loop
-state-bytes-requires c κs = search needs
-
 returns : tie.Need-returns Inv-loop μ-loop
 returns c =
     let l = c .before .before .loop in
@@ -98,18 +62,18 @@ rounds-spec =
     (tie.spec
     Inv-loop
     μ-loop
-    sboxes-requires
-    shared-slice-copy-out-k0
-    columns-requires
-    columns-requires-2
-    add-requires
+    (λ c κs. search needs)
+    (λ c. search needs)
+    (λ c κs. search needs)
+    (λ c κs. search needs)
+    (λ c κs. search needs)
     loop-holds
-    mul-ki
-    shared-slice-copy-out-ki
-    columns-requires-3
-    aesenc-requires
-    add-i
-    loop-less
+    (λ c. search needs)
+    (λ c. search needs)
+    (λ c κs. search needs)
+    (λ c κs. search needs)
+    (λ c. search needs)
+    (λ c. search needs)
     loop-again
-    state-bytes-requires
+    (λ c κs. search needs)
     returns)

@@ -6,33 +6,6 @@ use borrow.Author.Needs.{needs}
 use Rattle.aes.proofs.shifted_column.Statement.{statement}
 use Rattle.aes.proofs.shifted_column.Tie as tie
 
-row0-requires : tie.Need-row0-requires
-row0-requires c κs = search needs
-
-row1-requires : tie.Need-row1-requires
-row1-requires c κs = search needs
-
-row2-requires : tie.Need-row2-requires
-row2-requires c κs = search needs
-
-row3-requires : tie.Need-row3-requires
-row3-requires c κs = search needs
-
-sub-requires : tie.Need-sub-requires
-sub-requires c κs = search needs
-
-sub-requires-2 : tie.Need-sub-requires-2
-sub-requires-2 c κs = search needs
-
-sub-requires-3 : tie.Need-sub-requires-3
-sub-requires-3 c κs = search needs
-
-sub-requires-4 : tie.Need-sub-requires-4
-sub-requires-4 c κs = search needs
-
-column-requires : tie.Need-column-requires
-column-requires c κs = search needs
-
 -- the places where the rows are taken through the S-box and where they are read
 abbrev subs : tie.After-column → tie.After-sub4
 subs c = c .before
@@ -55,13 +28,13 @@ pub shifted-column-spec : {M : Type 1} → statement M
 shifted-column-spec =
     tie.close
     (tie.spec
-    row0-requires
-    row1-requires
-    row2-requires
-    row3-requires
-    sub-requires
-    sub-requires-2
-    sub-requires-3
-    sub-requires-4
-    column-requires
+    (λ c κs. search needs)
+    (λ c κs. search needs)
+    (λ c κs. search needs)
+    (λ c κs. search needs)
+    (λ c κs. search needs)
+    (λ c κs. search needs)
+    (λ c κs. search needs)
+    (λ c κs. search needs)
+    (λ c κs. search needs)
     returns)

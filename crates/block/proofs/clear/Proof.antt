@@ -20,9 +20,6 @@ loop-holds c = (omega arith, refl, record { long = sym (length-replicate (length
 slice-write-s : tie.Need-slice-write-s Inv-loop μ-loop
 slice-write-s c = omega (arith, c .before .loop .inv .1, c .before .loop .inv .3)
 
-add-i : tie.Need-add-i Inv-loop μ-loop
-add-i c = search needs
-
 loop-less : tie.Need-loop-less Inv-loop μ-loop
 loop-less c = omega (arith, c .before .loop .inv .1)
 
@@ -50,7 +47,7 @@ clear-spec =
     μ-loop
     loop-holds
     slice-write-s
-    add-i
+    (λ c. search needs)
     loop-less
     loop-again
     same-length

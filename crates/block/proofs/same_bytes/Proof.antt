@@ -21,23 +21,11 @@ loop-holds : tie.Need-loop-holds Inv-loop μ-loop
 unfolding same
 loop-holds c = (omega arith, refl)
 
-shared-slice-read-found : tie.Need-shared-slice-read-found Inv-loop μ-loop
-shared-slice-read-found c = search needs
-
-shared-slice-read-found-2 : tie.Need-shared-slice-read-found-2 Inv-loop μ-loop
-shared-slice-read-found-2 c = search needs
-
-add-i : tie.Need-add-i Inv-loop μ-loop
-add-i c = search needs
-
-loop-less : tie.Need-loop-less Inv-loop μ-loop
-loop-less c = search needs
-
 loop-again : tie.Need-loop-again Inv-loop μ-loop
 loop-again c =
     let l = c .before .before .before .loop in
-    let a = c .before .before .before .before .args in
-    (omega arith, step (a .a .now) (a .b .now) (l .found) (l .i) (c .before .before .before .before .pre) (omega arith) (l .inv .1))
+    let start = c .before .before .before .before in
+    (omega arith, step (start .args .a .now) (start .args .b .now) (l .found) (l .i) (start .pre) (omega arith) (l .inv .1))
 
 returns : tie.Need-returns Inv-loop μ-loop
 returns c =
@@ -53,9 +41,9 @@ same-bytes-spec =
     Inv-loop
     μ-loop
     loop-holds
-    shared-slice-read-found
-    shared-slice-read-found-2
-    add-i
-    loop-less
+    (λ c. search needs)
+    (λ c. search needs)
+    (λ c. search needs)
+    (λ c. search needs)
     loop-again
     returns)

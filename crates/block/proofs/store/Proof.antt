@@ -1,63 +1,34 @@
 -- `block::store` meets its contract. The invariant: the first i bytes of the block stand in their place.
-use mathlib.Core.List.{List, _++_}
-use mathlib.Core.Path.{_≡_, refl, ap, sym, _∙_}
-use Prim.Native.Nat.{ℕ, _+_, _-_, _≤_}
-use native.Mathlib.Numerals.{add-one}
+use mathlib.Core.Path.{_≡_}
+use Prim.Native.Nat.{_-_, _≤_}
 use native.Mathlib.Omega.{arith}
 use borrow.Author.Needs.{needs}
-use lib.ListN.{length, take, drop, getD, set, length-set}
-use lib.Seq.{paste, paste-zero, paste-suc, take-all}
+use lib.ListN.{length}
+use Rattle.block.proofs.Stores.{Stored, stored-none, stored-more, stored-all}
 use Rattle.block.proofs.store.Statement.{statement}
 use Rattle.block.proofs.store.Tie as tie
 
 abbrev Inv-loop : tie.InvT-loop
-Inv-loop s₀ at b i₀ s i = (i ≤ 16) × (s ≡ paste s₀ at b i) × (length s ≡ length s₀)
+Inv-loop s₀ at b i₀ s i = (i ≤ 16) × Stored s₀ at b s i
 
 abbrev μ-loop : tie.MeasureT-loop
 μ-loop s₀ at b i₀ s i = 16 - i
 
 loop-holds : tie.Need-loop-holds Inv-loop μ-loop
-loop-holds c = (omega arith, paste-zero (c .args .s .now) (c .args .at) (c .args .t3), refl)
-
-array-read-s : tie.Need-array-read-s Inv-loop μ-loop
-array-read-s c = search needs
-
-add-s : tie.Need-add-s Inv-loop μ-loop
-add-s c = search needs
-
-slice-write-s : tie.Need-slice-write-s Inv-loop μ-loop
-slice-write-s c = search needs
-
-add-i : tie.Need-add-i Inv-loop μ-loop
-add-i c = search needs
-
-loop-less : tie.Need-loop-less Inv-loop μ-loop
-loop-less c = search needs
+loop-holds c = (omega arith, stored-none (c .args .s .now) (c .args .at) (c .args .t3))
 
 loop-again : tie.Need-loop-again Inv-loop μ-loop
 loop-again c =
-    let l = c .before .loop in
-    let a = c .before .before .args in
-    let long : length (a .t3) ≡ 16 = search needs in (
-      omega arith,
-      ap (λ (t : List ℕ). set t (a .at + l .i) (getD (a .t3) (l .i) 0)) (l .inv .1)
-          ∙ paste-suc (a .s .now) (a .at) (a .t3) (l .i) 0 (omega arith) (omega arith)
-          ∙ ap (λ (n : ℕ). paste (a .s .now) (a .at) (a .t3) n) (sym (add-one (l .i))),
-      length-set (l .s) (a .at + l .i) (getD (a .t3) (l .i) 0) ∙ l .inv .2,
-    )
+    let long : length (c .before .before .args .t3) ≡ 16 = search needs in
+    (omega arith, stored-more (c .before .loop .inv .1) (omega arith) (omega arith))
 
 same-length : tie.Need-same-length Inv-loop μ-loop
-same-length c = c .before .loop .inv .2
+same-length c = c .before .loop .inv .1 .long
 
 returns : tie.Need-returns Inv-loop μ-loop
 returns c =
-    let l = c .before .loop in
-    let a = c .before .before .args in
-    let done : l .i ≡ 16 = omega arith in
-    let long : length (a .t3) ≡ 16 = search needs in
-    l .inv .1
-    ∙ ap (λ (n : ℕ). paste (a .s .now) (a .at) (a .t3) n) done
-    ∙ ap (λ (t : List ℕ). take (a .at) (a .s .now) ++ t ++ drop (a .at + 16) (a .s .now)) (take-all 16 (a .t3) (omega arith))
+    let long : length (c .before .before .args .t3) ≡ 16 = search needs in
+    stored-all (c .before .loop .inv .1) 16 (omega arith) long
 
 pub store-spec : {M : Type 1} → statement M
 store-spec =
@@ -66,11 +37,11 @@ store-spec =
     Inv-loop
     μ-loop
     loop-holds
-    array-read-s
-    add-s
-    slice-write-s
-    add-i
-    loop-less
+    (λ c. search needs)
+    (λ c. search needs)
+    (λ c. search needs)
+    (λ c. search needs)
+    (λ c. search needs)
     loop-again
     same-length
     returns)
