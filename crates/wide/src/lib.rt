@@ -53,10 +53,11 @@ enum Pass {
     Second,
 }
 
-// S_x and S_y.
+// S_x, S_y and S.
 struct Sums {
     sx: [u8; 16],
     sy: [u8; 16],
+    s: [u8; 16],
 }
 
 // a ⊕ E(x) at the pair p.
@@ -208,10 +209,10 @@ fn mask_uv(k: tbc::Key, sum: [u8; 16], uv: &mut [u8])
     mask(&mut uv[16..n], f);
 }
 
-// Line 230: S_x and S_y, of the last two blocks and the sum X.
+// Line 230: S_x, S_y and S, of the last two blocks and the sum X.
 fn middle(k: tbc::Key, delta: [u8; 16], way: Way, total: [u8; 16], last: &[u8]) -> Sums
     requires { ⌜ length (now last) ≡ 32 ⌝ }
-    ensures { λ r. ⌜ (r .sx ≡ sxOf (E (blocks k)) delta (firstOf way) total (now (last .entry))) × (r .sy ≡ syOf (E (blocks k)) delta (firstOf way) total (now (last .entry))) ⌝ }
+    ensures { λ r. ⌜ (r .sx ≡ sxOf (E (blocks k)) delta (firstOf way) total (now (last .entry))) × (r .sy ≡ syOf (E (blocks k)) delta (firstOf way) total (now (last .entry))) × (r .s ≡ r .sx ⊕ r .sy) ⌝ }
 {
     let mx = block::load(last, 0);
     let my = block::load(last, 16);
@@ -220,7 +221,8 @@ fn middle(k: tbc::Key, delta: [u8; 16], way: Way, total: [u8; 16], last: &[u8]) 
     let b = block::xor(a, total);
     let sx = added(k, i.x, b, my);
     let sy = added(k, i.xx, my, sx);
-    Sums { sx, sy }
+    let s = block::xor(sx, sy);
+    Sums { sx, sy, s }
 }
 
 // Line 239: C_x C_y put in place of the last two blocks, by S_x, S_y and the sum Y.
@@ -249,9 +251,7 @@ pub fn core_in_place(k: tbc::Key, delta: [u8; 16], way: Way, s: &mut [u8])
     let first = all_pairs(k, Pass::First, [0u8; 16], s);
     let total = with_uv(k, first, &s[at..last]);
     let sums = middle(k, delta, way, total, &s[last..n]);
-    let sx = sums.sx;
-    let sy = sums.sy;
-    let sum = block::xor(sx, sy);
+    let sum = sums.s;
     mask_uv(k, sum, &mut s[at..last]);
     let second = all_pairs(k, Pass::Second, sum, s);
     let all = with_uv(k, second, &s[at..last]);

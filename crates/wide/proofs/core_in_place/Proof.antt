@@ -30,11 +30,8 @@ first c = c .before .before .before .before .before
 abbrev total : tie.After-middle → tie.After-with-uv
 total c = c .before .before .before
 
-abbrev ends : tie.After-xor → tie.After-middle
+abbrev ends : tie.After-mask-uv → tie.After-middle
 ends c = c .before .before .before
-
-abbrev summed : tie.After-mask-uv → tie.After-xor
-summed c = c .before .before
 
 abbrev masked : tie.After-all-pairs2 → tie.After-mask-uv
 masked c = c .before .before .before .before
@@ -47,7 +44,7 @@ all c = c .before .before
 
 -- the first pass and the start, from the masks on
 abbrev passed : tie.After-mask-uv → tie.After-all-pairs
-passed c = first (total (ends (summed c)))
+passed c = first (total (ends c))
 
 abbrev start : tie.After-mask-uv → tie.Start
 start c = begun (passed c) .before
@@ -112,9 +109,6 @@ part-middle-end c = search needs
 middle-requires : tie.Need-middle-requires
 middle-requires c κs = search needs
 
-xor-requires : tie.Need-xor-requires
-xor-requires c κs = search needs
-
 sub-mask-uv : tie.Need-sub-mask-uv
 sub-mask-uv c = search needs
 
@@ -171,8 +165,7 @@ returns c =
     let y : tie.After-with-uv2 = all last in
     let p2 : tie.After-all-pairs2 = second y in
     let m : tie.After-mask-uv = masked p2 in
-    let S : tie.After-xor = summed m in
-    let e : tie.After-middle = ends S in
+    let e : tie.After-middle = ends m in
     let x : tie.After-with-uv = total e in
     let p1 : tie.After-all-pairs = first x in
     let s : tie.Start = start m in
@@ -186,9 +179,9 @@ returns c =
     let is-k : k ≡ rest (length (M s)) = omega arith in
     let is-n : n ≡ 32 = omega (arith, whole s) in
     together (E K) key (a .delta) block (firstOf (a .way)) (secondOf (a .way)) (M s) (s .pre .0) bytes k n is-k is-n
-    (p1 .all-pairs .result) (p1 .all-pairs .last .1 .1 .1 .0) (x .with-uv .result) (e .middle .result .sx) (e .middle .result .sy) (S .xor .result)
+    (p1 .all-pairs .result) (p1 .all-pairs .last .1 .1 .1 .0) (x .with-uv .result) (e .middle .result .sx) (e .middle .result .sy) (e .middle .result .s)
     (m .mask-uv .last .1 .1 .0) (p2 .all-pairs2 .result) (p2 .all-pairs2 .last .1 .1 .1 .0) (y .with-uv2 .result) (last .put-last .last .1 .1 .1 .1 .1 .0)
-    (p1 .all-pairs .ensures .0) (p1 .all-pairs .ensures .1) (x .with-uv .ensures) (e .middle .ensures .0) (e .middle .ensures .1) (S .xor .ensures)
+    (p1 .all-pairs .ensures .0) (p1 .all-pairs .ensures .1) (x .with-uv .ensures) (e .middle .ensures .0) (e .middle .ensures .1) (e .middle .ensures .2)
     (m .mask-uv .ensures) (p2 .all-pairs2 .ensures .0) (p2 .all-pairs2 .ensures .1) (y .with-uv2 .ensures) (last .put-last .ensures)
 
 pub core-in-place-spec : {M : Type 1} → statement M
@@ -207,7 +200,6 @@ core-in-place-spec =
     part-middle-start
     part-middle-end
     middle-requires
-    xor-requires
     sub-mask-uv
     part-mask-uv-start
     part-mask-uv-end

@@ -42,9 +42,13 @@ added-requires-2 c κs =
     let way = start i .args .way in
     plain-of way (i .pairs-of .result) (i .pairs-of .ensures) (λ (e : EndPairs). e .xx) (first-small way)
 
+xor-requires-3 : tie.Need-xor-requires-3
+xor-requires-3 c κs = search needs
+
 returns : tie.Need-returns
 returns c =
-    let sx : tie.After-added = c .before in
+    let sy : tie.After-added2 = c .before in
+    let sx : tie.After-added = sy .before in
     let b : tie.After-xor2 = sx .before in
     let a : tie.After-xor = b .before in
     let i : tie.After-pairs-of = a .before in
@@ -52,11 +56,13 @@ returns c =
     let mx : tie.After-load = my .before in
     let s = start i .args in
     let K = blocks (s .k) in
+    let made =
     middle-made (E K) (s .delta) (firstOf (s .way)) (s .total) (s .last .now)
-    (mx .load .result) (my .load2 .result) (a .xor .result) (b .xor2 .result) (sx .added .result) (c .added2 .result)
+    (mx .load .result) (my .load2 .result) (a .xor .result) (b .xor2 .result) (sx .added .result) (sy .added2 .result)
     (mx .load .ensures) (my .load2 .ensures) (a .xor .ensures) (b .xor2 .ensures)
     (added-of (s .way) (i .pairs-of .result) (i .pairs-of .ensures) (λ (e : EndPairs). e .x) K (sx .added .result) (b .xor2 .result) (my .load2 .result) (sx .added .ensures))
-    (added-of (s .way) (i .pairs-of .result) (i .pairs-of .ensures) (λ (e : EndPairs). e .xx) K (c .added2 .result) (my .load2 .result) (sx .added .result) (c .added2 .ensures))
+    (added-of (s .way) (i .pairs-of .result) (i .pairs-of .ensures) (λ (e : EndPairs). e .xx) K (sy .added2 .result) (my .load2 .result) (sx .added .result) (sy .added2 .ensures)) in
+    (made .0, made .1, c .xor3 .ensures)
 
 pub middle-spec : {M : Type 1} → statement M
 middle-spec =
@@ -69,4 +75,5 @@ middle-spec =
     xor-requires-2
     added-requires
     added-requires-2
+    xor-requires-3
     returns)

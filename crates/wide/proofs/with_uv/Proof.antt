@@ -9,30 +9,7 @@ use Rattle.wide.proofs.with_uv.Tie as tie
 abbrev start : tie.Else1 → tie.Start
 start c = c .before .before
 
-returns : tie.Need-returns
-returns c =
-    let a = c .before .before .args in
-    with-none (E (blocks (a .k))) (a .total) (a .uv .now) (c .if1 .taken)
-
-pad-requires : tie.Need-pad-requires
-pad-requires c κs = search needs
-
-added-requires : tie.Need-added-requires
-added-requires c κs = search needs
-
-returns-2 : tie.Need-returns-2
-returns-2 c =
-    let pad : tie.After-pad = c .before in
-    let short : tie.Then2 = pad .before in
-    let a = start (short .before) .args in
-    with-short (E (blocks (a .k))) (a .total) (a .uv .now) (short .before .if1 .left) (short .if2 .taken) (pad .pad .result) (c .added .result) (pad .pad .ensures) (c .added .ensures)
-
-load-requires : tie.Need-load-requires
-load-requires c κs = search needs
-
-added-requires-2 : tie.Need-added-requires-2
-added-requires-2 c κs = search needs
-
+-- the part that is lent
 sub-pad : tie.Need-sub-pad
 sub-pad c = search needs
 
@@ -42,11 +19,36 @@ part-pad-start c = search needs
 part-pad-end : tie.Need-part-pad-end
 part-pad-end c = search needs
 
+-- what the calls ask
+pad-requires : tie.Need-pad-requires
+pad-requires c κs = search needs
+
+added-requires : tie.Need-added-requires
+added-requires c κs = search needs
+
+load-requires : tie.Need-load-requires
+load-requires c κs = search needs
+
+added-requires-2 : tie.Need-added-requires-2
+added-requires-2 c κs = search needs
+
 pad-requires-2 : tie.Need-pad-requires-2
 pad-requires-2 c κs = search needs
 
 added-requires-3 : tie.Need-added-requires-3
 added-requires-3 c κs = search needs
+
+returns : tie.Need-returns
+returns c =
+    let a = c .before .before .args in
+    with-none (E (blocks (a .k))) (a .total) (a .uv .now) (c .if1 .taken)
+
+returns-2 : tie.Need-returns-2
+returns-2 c =
+    let pad : tie.After-pad = c .before in
+    let short : tie.Then2 = pad .before in
+    let a = start (short .before) .args in
+    with-short (E (blocks (a .k))) (a .total) (a .uv .now) (short .before .if1 .left) (short .if2 .taken) (pad .pad .result) (c .added .result) (pad .pad .ensures) (c .added .ensures)
 
 returns-3 : tie.Need-returns-3
 returns-3 c =
