@@ -49,15 +49,22 @@ second c = c .before .before .before
 abbrev start-2 : tie.After-l2 → tie.Start
 start-2 c = start (first c .before)
 
-both : (c : tie.After-copy2) → take (n (start-2 (c .before)) + n (start-2 (c .before))) (c .copy2 .last .0) ≡ R (start-2 (c .before)) ++ L (start-2 (c .before))
+abbrev start-3 : tie.After-copy2 → tie.Start
+start-3 c = start-2 (c .before)
+
+-- what is lent to put_bytes
+abbrev H : tie.After-copy2 → List ℕ
+H c = take (n (start-3 c) + n (start-3 c)) (c .copy2 .last .0)
+
+both : (c : tie.After-copy2) → H c ≡ R (start-3 c) ++ L (start-3 c)
 both c =
-    let s = start-2 (c .before) in
+    let s = start-3 c in
     let f = first (c .before) in
     one-after-other (n s) (R s) (L s) (f .copy .last .0) (c .copy2 .last .0) _ _ (R-long s) (L-long s) (f .copy .ensures) (c .copy2 .ensures)
 
-both-long : (c : tie.After-copy2) → length (take (n (start-2 (c .before)) + n (start-2 (c .before))) (c .copy2 .last .0)) ≡ n (start-2 (c .before)) + n (start-2 (c .before))
+both-long : (c : tie.After-copy2) → length (H c) ≡ n (start-3 c) + n (start-3 c)
 both-long c =
-    let s = start-2 (c .before) in
+    let s = start-3 c in
     ap length (both c) ∙ length-append (R s) (L s) ∙ ap₂ _+_ (R-long s) (L-long s)
 
 slice-aggregate-copy : tie.Need-slice-aggregate-copy
