@@ -13,7 +13,8 @@ use Rattle.laws.proofs.Multiples.{twoTo-zero}
 use Rattle.tbc.specs.Meaning.{blocks, pair}
 use Rattle.tbc.specs.declared.Pair.{Pair}
 use Rattle.tbc.proofs.Powers.{next}
-use Rattle.tbc.proofs.Pairs.{at-pair, running}
+use Rattle.tbc.proofs.Pairs.{running}
+use Rattle.hash.proofs.Rows.{gives}
 use Rattle.hash.proofs.full_blocks.Statement.{statement}
 use Rattle.hash.proofs.full_blocks.Tie as tie
 
@@ -47,9 +48,7 @@ is-term c =
     let l = looped (c .before) in
     let a = start (begun l) .args in
     let x : c .before .before .load .result ≡ blockAt (a .t .now) (l .loop .j) = c .before .before .load .ensures ∙ ap (λ (n : ℕ). take 16 (drop n (a .t .now))) (l .loop .inv .1) in
-    c .e-running .ensures
-    ∙ at-pair (c .before .at .result) false (2 + a .i) (l .loop .j) (is-pair (c .before)) (blocks (a .k)) _
-    ∙ ap (E (blocks (a .k)) (row (2 + a .i)) (l .loop .j)) x
+    gives (blocks (a .k)) (c .before .at .result) (2 + a .i) (l .loop .j) (c .before .before .load .result) (blockAt (a .t .now) (l .loop .j)) (c .e-running .result) (is-pair (c .before)) x (c .e-running .ensures)
 
 string-requires : tie.Need-string-requires Inv-loop μ-loop
 string-requires c κs = search needs

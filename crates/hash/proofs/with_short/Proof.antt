@@ -3,11 +3,11 @@ use mathlib.Core.Bool.{false}
 use mathlib.Core.Path.{ap, _∙_}
 use Prim.Native.Nat.{_+_}
 use borrow.Author.Needs.{needs}
-use Rattle.paper.specs.Strings.{Bytes, _⊕_}
+use Rattle.paper.specs.Strings.{Bytes, _⊕_, pad10*}
 use Rattle.paper.specs.Figure6.{row, E}
 use Rattle.tbc.specs.Meaning.{blocks}
-use Rattle.tbc.proofs.Pairs.{at-pair, plain}
-use Rattle.hash.proofs.Rows.{plain-from3}
+use Rattle.tbc.proofs.Pairs.{plain}
+use Rattle.hash.proofs.Rows.{plain-from3, gives}
 use Rattle.hash.proofs.with_short.Statement.{statement}
 use Rattle.hash.proofs.with_short.Tie as tie
 
@@ -32,10 +32,7 @@ returns : tie.Need-returns
 returns c =
     let p = c .before .before in
     let a = start (p .before) .args in
-    let last =
-    c .before .e .ensures
-    ∙ at-pair _ false (2 + a .i) 0 (p .before .string .ensures) (blocks (a .k)) _
-    ∙ ap (E (blocks (a .k)) (row (2 + a .i)) 0) (p .pad .ensures) in
+    let last = gives (blocks (a .k)) (p .before .string .result) (2 + a .i) 0 (p .pad .result) (pad10* (a .last .now)) (c .before .e .result) (p .before .string .ensures) (p .pad .ensures) (c .before .e .ensures) in
     c .xor .ensures ∙ ap (λ (l : Bytes). a .full ⊕ l) last
 
 pub with-short-spec : {M : Type 1} → statement M
