@@ -1,5 +1,5 @@
 -- What is written of the log header's items, part by part. The rule on what is left out is opened here only.
-use mathlib.Core.Bool.{Bool, true, false, _||_}
+use mathlib.Core.Bool.{Bool, true, false, _||_, true≢false}
 use mathlib.Core.List.{List, [], _∷_, _++_, append-assoc, append-nil}
 use mathlib.Core.Path.{_≡_, refl, ap, sym, _∙_}
 use Prim.Native.Nat.{ℕ, suc, _+_, _/_, _%_, _≤_, _<_}
@@ -75,19 +75,21 @@ log-long nonce host collector locale =
 
 -- ---- The answers
 
+neither : (a b : Bool) → (a || b) ≡ false → (a ≡ false) × (b ≡ false)
+neither true b e = absurd (true≢false e)
+neither false b e = (refl, e)
+
 module _ (nonce host collector locale : Bytes) (ok : tooLong nonce host collector locale ≡ false) where
   -- no item is too long
   pub items-fit : (length nonce ≤ 1024) × (length host ≤ 1024) × (length collector ≤ 1024) × (length locale ≤ 1024)
-  items-fit = go (ltb 1024 (length nonce)) refl (ltb 1024 (length host)) refl (ltb 1024 (length collector)) refl (ltb 1024 (length locale)) refl ok
-    where
-      go : (a : Bool) → ltb 1024 (length nonce) ≡ a → (b : Bool) → ltb 1024 (length host) ≡ b → (c : Bool) → ltb 1024 (length collector) ≡ c
-          → (d : Bool) → ltb 1024 (length locale) ≡ d → (a || b || c || d) ≡ false
-          → (length nonce ≤ 1024) × (length host ≤ 1024) × (length collector ≤ 1024) × (length locale ≤ 1024)
-      go false p false q false r false s e = (ltb-false 1024 (length nonce) p, ltb-false 1024 (length host) q, ltb-false 1024 (length collector) r, ltb-false 1024 (length locale) s)
-      go true p b q c r d s e = absurd (let z : _≡_ {A = ℕ} 0 1 = cc in omega arith)
-      go false p true q c r d s e = absurd (let z : _≡_ {A = ℕ} 0 1 = cc in omega arith)
-      go false p false q true r d s e = absurd (let z : _≡_ {A = ℕ} 0 1 = cc in omega arith)
-      go false p false q false r true s e = absurd (let z : _≡_ {A = ℕ} 0 1 = cc in omega arith)
+  items-fit =
+      let n = ltb 1024 (length nonce) in
+      let h = ltb 1024 (length host) in
+      let c = ltb 1024 (length collector) in
+      let three = neither (n || h || c) (ltb 1024 (length locale)) ok in
+      let two = neither (n || h) c (three .0) in
+      let one = neither n h (two .0) in
+      (ltb-false 1024 (length nonce) (one .0), ltb-false 1024 (length host) (one .1), ltb-false 1024 (length collector) (two .1), ltb-false 1024 (length locale) (three .1))
 
   pub builds-6 : (out : Bytes) → length out < length (logHeader nonce host collector locale) → buildingLogHeader nonce host collector locale out ≡ refused 6 out
   unfolding buildingLogHeader

@@ -21,7 +21,7 @@ placed-then at v w out p =
     ∙ (λ i. append-assoc (take at out) v w i ++ drop (both i) out)
 
 -- a byte, and two bytes, that are stored
-pub stored-first : (x : ℕ) (out : Bytes) → 1 ≤ length out → set out 0 x ≡ placed 0 (x ∷ []) out
+stored-first : (x : ℕ) (out : Bytes) → 1 ≤ length out → set out 0 x ≡ placed 0 (x ∷ []) out
 stored-first x out p = sets-eq (x ∷ []) out 0 (omega arith)
 
 pub stored-two : (at x y : ℕ) (out : Bytes) → at + 2 ≤ length out → set (set out at x) (at + 1) y ≡ placed at (x ∷ y ∷ []) out

@@ -1,5 +1,5 @@
--- Lists by their entries: the entry at k of a table is f k, a list is the table of its entries, and a map replaces each.
-use mathlib.Core.List.{List, [], _∷_, map}
+-- Lists by their entries: the entry at k of a table is f k, and a list is the table of its entries.
+use mathlib.Core.List.{List, [], _∷_}
 use mathlib.Core.Path.{_≡_, refl, ap, ap₂, sym, subst, _∙_}
 use Prim.Native.Nat.{ℕ, zero, suc, _+_, _<_}
 use native.Mathlib.Nat.{add-zero, zero-add, add-suc, suc-add, le-of-suc-le-suc, not-suc-le-zero}
@@ -26,12 +26,6 @@ pub tab-entries : (n : ℕ) (l : List ℕ) → length l ≡ n → l ≡ tab n (�
 tab-entries n l e =
     subst (λ (m : ℕ). l ≡ tab m (λ i. getD l i 0)) e
     (entries 0 (λ i. getD l i 0) l (λ k. ap (λ (j : ℕ). getD l j 0) (zero-add k)))
-
--- an entry of a map
-pub getD-map : (f : ℕ → ℕ) (l : List ℕ) (i : ℕ) → i < length l → getD (map f l) i 0 ≡ f (getD l i 0)
-getD-map f [] i h = absurd (not-suc-le-zero h)
-getD-map f (x ∷ l) zero h = refl
-getD-map f (x ∷ l) (suc i) h = getD-map f l i (le-of-suc-le-suc h)
 
 -- a list of no entries
 pub no-entries : (l : List ℕ) → length l ≡ 0 → l ≡ []

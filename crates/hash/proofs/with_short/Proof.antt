@@ -4,7 +4,6 @@ use mathlib.Core.Path.{ap, _∙_}
 use Prim.Native.Nat.{_+_}
 use borrow.Author.Needs.{needs}
 use Rattle.paper.specs.Strings.{Bytes, _⊕_, pad10*}
-use Rattle.paper.specs.Figure6.{row, E}
 use Rattle.tbc.specs.Meaning.{blocks}
 use Rattle.tbc.proofs.Pairs.{plain}
 use Rattle.hash.proofs.Rows.{plain-from3, gives}
