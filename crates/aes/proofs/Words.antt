@@ -42,8 +42,8 @@ xor-four a b c d a' b' c' d' p q = record {
   byte3 = xor-lt 8 d d' (p .byte3) (q .byte3);
 }
 
-turn : (a b c d : ℕ) → Four a b c d → turnedUp (column a b c d) ≡ column b c d a
-turn a b c d p = omega arith
+turned-column : (a b c d : ℕ) → Four a b c d → turnedUp (column a b c d) ≡ column b c d a
+turned-column a b c d p = omega arith
 
 up : (a b c d : ℕ) → column (a % 128) (b % 128) (c % 128) (d % 128) * 2 % 4294967296
     ≡ column (a % 128 * 2) (b % 128 * 2) (c % 128 * 2) (d % 128 * 2)
@@ -90,11 +90,11 @@ module _ (a b c d : ℕ) (p : Four a b c d) where
   below = record { byte0 = p .byte1; byte1 = p .byte2; byte2 = p .byte3; byte3 = p .byte0 }
 
   -- each byte and the one below it
-  pairs : bitXor (column a b c d) (turnedUp (column a b c d)) ≡ column (bitXor a b) (bitXor b c) (bitXor c d) (bitXor d a)
-  pairs = ap (bitXor (column a b c d)) (turn a b c d p) ∙ by-bytes bitXor xor-block a b c d b c d a p below
+  with-below : bitXor (column a b c d) (turnedUp (column a b c d)) ≡ column (bitXor a b) (bitXor b c) (bitXor c d) (bitXor d a)
+  with-below = ap (bitXor (column a b c d)) (turned-column a b c d p) ∙ by-bytes bitXor xor-block a b c d b c d a p below
 
   two-below : turnedUp (bitXor (column a b c d) (turnedUp (column a b c d))) ≡ column (bitXor b c) (bitXor c d) (bitXor d a) (bitXor a b)
-  two-below = ap turnedUp pairs ∙ turn (bitXor a b) (bitXor b c) (bitXor c d) (bitXor d a) (xor-four a b c d b c d a p below)
+  two-below = ap turnedUp with-below ∙ turned-column (bitXor a b) (bitXor b c) (bitXor c d) (bitXor d a) (xor-four a b c d b c d a p below)
 
   below-pairs : Four (bitXor b c) (bitXor c d) (bitXor d a) (bitXor a b)
   below-pairs = xor-four b c d a c d a b below (record { byte0 = p .byte2; byte1 = p .byte3; byte2 = p .byte0; byte3 = p .byte1 })
@@ -125,7 +125,7 @@ module _ (a b c d : ℕ) (p : Four a b c d) where
       (bitXor (xtime c) (bitXor (bitXor (xtime d) d) (bitXor a b))) (bitXor (xtime d) (bitXor (bitXor (xtime a) a) (bitXor b c)))
   unfolding mixedColumn
   mix =
-      ap₂ bitXor (double-column a b c d p) (ap turnedUp others ∙ turn _ _ _ _ others-four)
+      ap₂ bitXor (double-column a b c d p) (ap turnedUp others ∙ turned-column _ _ _ _ others-four)
       ∙ by-bytes bitXor xor-block (xtime a) (xtime b) (xtime c) (xtime d)
       (bitXor (bitXor (xtime b) b) (bitXor c d)) (bitXor (bitXor (xtime c) c) (bitXor d a))
       (bitXor (bitXor (xtime d) d) (bitXor a b)) (bitXor (bitXor (xtime a) a) (bitXor b c))

@@ -51,7 +51,7 @@ mul-byte (suc n) a b h = go (eqb (a % 2) 0) (xtime (mulBits n (a / 2) b)) (xtime
     go false y p = xor-lt 8 y b p h
 
 -- a multiple of a byte is a byte
-pub •-byte : (a b : ℕ) → b < 256 → a • b < 256
+•-byte : (a b : ℕ) → b < 256 → a • b < 256
 unfolding _•_
 •-byte a b h = mul-byte 8 a b h
 
@@ -103,7 +103,7 @@ mix-block s p = append-digits (column 0) (append-digits (column 1) (append-digit
 
 -- ---- rounds
 
-pub aesenc-block : {X K : Bytes} → Block X → Block K → Block (aesenc X K)
+aesenc-block : {X K : Bytes} → Block X → Block K → Block (aesenc X K)
 unfolding aesenc SubBytes
 aesenc-block {X} p q = ⊕-digits (mix-block (ShiftRows (map sbox X)) (shift-rows (map sbox X) (sub-bytes X))) q (omega arith)
 

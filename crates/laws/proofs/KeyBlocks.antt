@@ -27,7 +27,7 @@ number-block n = record { len = length-digits 256 16 n; low = digits-bytes 16 n 
 
 -- ---- multiples
 
-pub double-block : {X : Bytes} → Block X → Block (double X)
+double-block : {X : Bytes} → Block X → Block (double X)
 unfolding double
 double-block {X} p = ⊕-block (shift-block X p) (number-block (135 * msb (bits X)))
 
@@ -41,11 +41,11 @@ bits-block (suc k) (suc n) {X} p = go (eqb (suc n % 2) 0) (double-block (bits-bl
     go true q = q
     go false q = ⊕-block q p
 
-pub times-block : (n : ℕ) {X : Bytes} → Block X → Block (n · X)
+times-block : (n : ℕ) {X : Bytes} → Block X → Block (n · X)
 unfolding _·_
 times-block n p = bits-block n n p
 
-pub twoTo-block : (e : ℕ) {X : Bytes} → Block X → Block (twoTo e X)
+twoTo-block : (e : ℕ) {X : Bytes} → Block X → Block (twoTo e X)
 unfolding twoTo
 twoTo-block zero p = p
 twoTo-block (suc e) p = double-block (twoTo-block e p)

@@ -86,7 +86,7 @@ module _ (X : Bytes) (p : Block X) where
   shift-block = rw shift-left (record { len = leftShifted-length X ∙ p .len; low = leftShifted-below X (p .low) })
 
   -- msb(X) is the top bit of byte 0
-  pub first-bit : getD (bits X) 0 0 ≡ getD X 0 0 / 128
+  first-bit : getD (bits X) 0 0 ≡ getD X 0 0 / 128
   first-bit = sym (List·getD-append (bits X) (0 ∷ []) 0 0 some-bits) ∙ sym (ap (λ (l : List ℕ). getD l 0 0) (shift-bits X (p .low)))
 
   -- what byte 15 takes where the bit that is lost was 1

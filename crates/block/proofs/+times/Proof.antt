@@ -45,29 +45,23 @@ times-requires t c κs =
     let some : c .before .before .args .n ≢ 0 = c .before .if1 .left in
     (omega (arith, c .before .before .pre .0), tt)
 
-double-requires : (t : ℕ) → times-lts.Need-double-requires
-    (times-below t, times.Post, double-reads.Asked, double-reads.Learnt, xor-reads.Asked, xor-reads.Learnt) (times-at t) times.Post
-double-requires t c κs = tt
-
 returns-3 : (t : ℕ) → times-lts.Need-returns-3
     (times-below t, times.Post, double-reads.Asked, double-reads.Learnt, xor-reads.Asked, xor-reads.Learnt) (times-at t) times.Post
 returns-3 t c =
-    let a = c .before .before .before .before .before .args in
-    let some : a .n ≢ 0 = c .before .before .before .before .if1 .left in
+    let halved = c .before .before in
+    let a = halved .before .before .before .args in
+    let some : a .n ≢ 0 = halved .before .before .if1 .left in
     c .before .double .ensures
-    ∙ ap double (c .before .before .times .ensures)
+    ∙ ap double (halved .times .ensures)
     ∙ sym (times-even (a .n) (a .x) (omega arith) (c .if3 .taken))
-
-xor-requires : (t : ℕ) → times-lts.Need-xor-requires
-    (times-below t, times.Post, double-reads.Asked, double-reads.Learnt, xor-reads.Asked, xor-reads.Learnt) (times-at t) times.Post
-xor-requires t c κs = tt
 
 returns-4 : (t : ℕ) → times-lts.Need-returns-4
     (times-below t, times.Post, double-reads.Asked, double-reads.Learnt, xor-reads.Asked, xor-reads.Learnt) (times-at t) times.Post
 returns-4 t c =
-    let a = c .before .before .before .before .before .before .args in
+    let doubled = c .before .before in
+    let a = doubled .before .before .before .before .args in
     c .xor .ensures
-    ∙ ap (λ (Y : Bytes). Y ⊕ a .x) (c .before .before .double .ensures ∙ ap double (c .before .before .before .times .ensures))
+    ∙ ap (λ (Y : Bytes). Y ⊕ a .x) (doubled .double .ensures ∙ ap double (doubled .before .times .ensures))
     ∙ sym (times-odd (a .n) (a .x) (c .before .if3 .left))
 
 pub +times-spec : {M : Type 1} → statement M
@@ -77,7 +71,7 @@ pub +times-spec : {M : Type 1} → statement M
     (returns t)
     (returns-2 t)
     (times-requires t)
-    (double-requires t)
+    (λ c κs. tt)
     (returns-3 t)
-    (xor-requires t)
+    (λ c κs. tt)
     (returns-4 t)
