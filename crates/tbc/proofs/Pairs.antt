@@ -1,12 +1,13 @@
 -- A pair that a call returned: E at it, and what `e` and `e_running` ask of it. And that both stay within the figure's domain.
 use mathlib.Core.Bool.{Bool, false}
 use mathlib.Core.Path.{_≡_, refl, ap, subst⁻¹}
-use Prim.Native.Nat.{ℕ, zero, suc, _-_, _/_, _≤_}
+use Prim.Native.Nat.{ℕ, zero, suc, _+_, _-_, _/_, _≤_}
 use native.Mathlib.Omega.{arith}
 use Rattle.paper.specs.Strings.{Bytes}
 use Rattle.paper.specs.Section7.{twoTo}
 use Rattle.paper.specs.Figure6.{Row, minus1, row, Key, Defined, E}
-use Rattle.tbc.specs.Meaning.{pair, pairOf, rowOf, Plain, Running}
+use Rattle.paper.specs.Document01.{aᵢ, aaᵢ, hash}
+use Rattle.tbc.specs.Meaning.{pair, pairOf, named, rowOf, Plain, Running}
 use Rattle.tbc.specs.declared.Key as Code
 use Rattle.tbc.specs.declared.Pair.{Pair}
 use Rattle.tbc.proofs.Masks.{row-of}
@@ -32,6 +33,16 @@ first-index (row j) i = refl
 pub second-index : (r : Row) (i : ℕ) → pairOf r i .2 ≡ i
 second-index minus1 i = refl
 second-index (row j) i = refl
+
+-- what `at` and `string` make of the rows that count is 01's pair for every number
+pub at-aᵢ : (i : ℕ) → pair (named (aᵢ 0) .0) (named (aᵢ 0) .1) i ≡ named (aᵢ i)
+at-aᵢ i = refl
+
+pub at-aaᵢ : (i : ℕ) → pair (named (aaᵢ 0) .0) (named (aaᵢ 0) .1) i ≡ named (aaᵢ i)
+at-aaᵢ i = refl
+
+pub string-at : (s b : ℕ) → pair (named (hash 0 0) .0) (named (hash 0 0) .1 + s) b ≡ named (hash s b)
+string-at s b = let e : 2 + s ≡ s + 2 = omega arith in ap (λ (j : ℕ). pair false j b) e
 
 -- ---- every call of E is one that the figure defines
 

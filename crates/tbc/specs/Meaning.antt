@@ -29,13 +29,14 @@ abbrev pub pairOf : Row → ℕ → Pair
 pairOf minus1 i = pair true 1 i
 pairOf (row j) i = pair false j i
 
--- 01's table, in its order, and the hash's row. A row for each number has 0, and so has the hash's for each string
-abbrev pub uses : List Use
-uses =
-    a ∷ aᵢ 0 ∷ aaᵢ 0 ∷ x ∷ y ∷ xx ∷ yy ∷ u ∷ v ∷ uu ∷ vv ∷ tiny 16 ∷ tiny 15 ∷ tinyLast ∷ prf ∷ hash 0 0 ∷ []
+-- the pair of a use, by 01's table
+abbrev pub named : Use → Pair
+named e = pairOf (indices e .0) (indices e .1)
 
+-- the table in 01's order, and the hash's row. A row whose number counts has 0 for it, and so has the hash's for the string
 abbrev pub indexPairs : List Pair
-indexPairs = map (λ (e : Use). pairOf (indices e .0) (indices e .1)) uses
+indexPairs =
+    map named (a ∷ aᵢ 0 ∷ aaᵢ 0 ∷ x ∷ y ∷ xx ∷ yy ∷ u ∷ v ∷ uu ∷ vv ∷ tiny 16 ∷ tiny 15 ∷ tinyLast ∷ prf ∷ hash 0 0 ∷ [])
 
 -- the power that follows the power for b
 abbrev pub nextPower : ℕ → Bytes → Bytes
