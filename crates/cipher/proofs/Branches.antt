@@ -132,8 +132,11 @@ module _ (E : BlockFunction) (Δ : Bytes) where
     empty-answer r n last e g o z =
         (o ∙ ap (λ (k : ℕ). opens (decryptUnder E Δ k C)) e, z ∙ ap (λ (k : ℕ). replicate k 0) (sym g) ∙ empty-leaves e)
 
-    -- a longer one: X is what it deciphers to
-    module _ (X : Bytes) (is : X ≡ decipher E Δ C) (long : length X ≡ length C) (more : t < length C) where
+    -- a longer one: mid, the buffer that it fills, deciphers to X
+    module _ (mid X : Bytes) (put : mid ≡ C) (is : X ≡ decipher E Δ mid) (kept : length X ≡ length mid) (more : t < length C) where
+      long : length X ≡ length C
+      long = kept ∙ ap length put
+
       -- its last bytes, which are to be zeros, and those before
       abbrev end : Bytes
       end = drop (length C - t) X
@@ -143,8 +146,9 @@ module _ (E : BlockFunction) (Δ : Bytes) where
 
       opened-X : decryptUnder E Δ t C ≡ checked (same end (replicate t 0)) front
       opened-X =
+          let from : decipher E Δ C ≡ X = sym (is ∙ ap (decipher E Δ) put) in
           opened-other (λ e. omega (arith, e))
-          ∙ (λ i. checked (same (drop (length (sym is i) - t) (sym is i)) (replicate t 0)) (take (length (sym is i) - t) (sym is i)))
+          ∙ (λ i. checked (same (drop (length (from i) - t) (from i)) (replicate t 0)) (take (length (from i) - t) (from i)))
           ∙ ap (λ (k : ℕ). checked (same (drop (k - t) X) (replicate t 0)) (take (k - t) X)) long
 
       right : same end (replicate t 0) ≡ true → X ≡ front ++ replicate t 0

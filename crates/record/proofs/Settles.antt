@@ -90,6 +90,11 @@ abbrev unreadable : Option (List Bytes) → Bool
 unreadable none = true
 unreadable (some strings) = false
 
+-- a call by its header: 3, or what is done with the strings
+abbrev headed : (List Bytes → Outcome) → Bytes → Option (List Bytes) → Outcome
+headed rest out none = refused 3 out
+headed rest out (some strings) = rest strings
+
 module _ (key header : Bytes) (stretch : ℕ) where
   -- ---- Tests 1, 2 and 3
 
@@ -146,31 +151,39 @@ module _ (key header : Bytes) (stretch : ℕ) where
   number-in : (later : List Test) (P : ℕ → Type 0) → P 0 → Each P (tests later) → P (first (settledCommon key header stretch) (settles later))
   number-in later P z h = subst P (sym (first-tests later)) (settles-in P (tests later) z h)
 
-  -- ---- A call with later tests: number is what all of them settle, and once they are passed the rest is done with the header
+  -- ---- A call with later tests: number is what all of them settle, and once they are passed the rest is done with the header's strings
 
-  record Door (later : List Test) (number : ℕ) (rest : Option (List Bytes) → Outcome) (out : Bytes) (result : Outcome) : Type 0 where
+  record Door (later : List Test) (number : ℕ) (rest : List Bytes → Outcome) (out : Bytes) (result : Outcome) : Type 0 where
     settled : number ≡ first (settledCommon key header stretch) (settles later)
-    is-call : result ≡ call (tests later) (rest (readHeader header)) out
+    is-call : result ≡ call (tests later) (headed rest out (readHeader header)) out
 
   -- it may be written with the later tests under the header
-  under-header : (later : List Test) (under rest : Option (List Bytes) → Outcome) (out : Bytes)
-      → ((o : Option (List Bytes)) → under o ≡ (if unreadable o then refused 3 out else call later (rest o) out))
+  under-header : (later : List Test) (under : Option (List Bytes) → Outcome) (rest : List Bytes → Outcome) (out : Bytes)
+      → under none ≡ refused 3 out → ((strings : List Bytes) → under (some strings) ≡ call later (rest strings) out)
       → (if not (eqb (length key) 48) then refused 1 out else if ltb longestStretch stretch then refused 2 out else under (readHeader header))
-      ≡ call (tests later) (rest (readHeader header)) out
-  under-header later under rest out h =
-      ap (λ (o : Outcome). if not (eqb (length key) 48) then refused 1 out else if ltb longestStretch stretch then refused 2 out else o) (h (readHeader header))
+      ≡ call (tests later) (headed rest out (readHeader header)) out
+  under-header later under rest out p q =
+      ap (λ (o : Outcome). if not (eqb (length key) 48) then refused 1 out else if ltb longestStretch stretch then refused 2 out else o) (by (readHeader header))
+    where
+      by : (o : Option (List Bytes)) → under o ≡ (if unreadable o then refused 3 out else call later (headed rest out o) out)
+      by none = p
+      by (some strings) = q strings
 
-  module _ {later : List Test} {number : ℕ} {rest : Option (List Bytes) → Outcome} {out : Bytes} {result : Outcome} (door : Door later number rest out result) where
+  module _ {later : List Test} {number : ℕ} {rest : List Bytes → Outcome} {out : Bytes} {result : Outcome} (door : Door later number rest out result) where
     door-refused : (n : ℕ) → n ≡ number → (n ≡ 0 → ⊥) → result ≡ refused n out
-    door-refused n e f = door .is-call ∙ call-refused (tests later) (rest (readHeader header)) out n (e ∙ door .settled ∙ first-tests later) f
+    door-refused n e f = door .is-call ∙ call-refused (tests later) (headed rest out (readHeader header)) out n (e ∙ door .settled ∙ first-tests later) f
 
-    door-done : Each (λ n. 1 ≤ n) later → (n : ℕ) (strings : List Bytes) → n ≡ number → n ≡ 0 → readHeader header ≡ some strings → result ≡ rest (some strings)
+    door-done : Each (λ n. 1 ≤ n) later → (n : ℕ) (strings : List Bytes) → n ≡ number → n ≡ 0 → readHeader header ≡ some strings → result ≡ rest strings
     door-done positive n strings e z r =
         let none = passes (tests later) (omega arith, (omega arith, (omega arith, positive))) (sym (e ∙ door .settled ∙ first-tests later) ∙ z) in
-        door .is-call ∙ call-done (tests later) (rest (readHeader header)) out none ∙ ap rest r
+        door .is-call ∙ call-done (tests later) (headed rest out (readHeader header)) out none ∙ ap (headed rest out) r
 
-    door-in : (P : Outcome → Type 0) → Each (λ n. P (refused n out)) (tests later) → ((o : Option (List Bytes)) → P (rest o)) → P result
-    door-in P h p = subst P (sym (door .is-call)) (call-in P (tests later) (rest (readHeader header)) out h (p (readHeader header)))
+    door-in : (P : Outcome → Type 0) → Each (λ n. P (refused n out)) (tests later) → ((strings : List Bytes) → P (rest strings)) → P result
+    door-in P h p = subst P (sym (door .is-call)) (call-in P (tests later) (headed rest out (readHeader header)) out h (by (readHeader header)))
+      where
+        by : (o : Option (List Bytes)) → P (headed rest out o)
+        by none = h .1 .1 .0
+        by (some strings) = p strings
 
   -- ---- Sealing
 
@@ -190,37 +203,29 @@ module _ (key header : Bytes) (stretch : ℕ) where
 
   module _ (text out : Bytes) where
     -- what is done with the header's strings
-    sealed-with : Option (List Bytes) → Outcome
-    sealed-with none = refused 3 out
-    sealed-with (some strings) = done (length text + stretch) (encrypt (E (keyOf key)) strings stretch text) out
+    abbrev sealed-with : List Bytes → Outcome
+    sealed-with strings = done (length text + stretch) (encrypt (E (keyOf key)) strings stretch text) out
 
     sealing-door : Door (sealing-tests (length text) (length out)) (settledSealing key header stretch (length text) (length out)) sealed-with out
         (sealing key header stretch text out)
-    unfolding sealing sealUnder settledSealing sealed-with
-    sealing-door = record { settled = refl; is-call = under-header (sealing-tests (length text) (length out)) (λ o. sealUnder o key stretch text out) sealed-with out by }
-      where
-        by : (o : Option (List Bytes))
-            → sealUnder o key stretch text out ≡ (if unreadable o then refused 3 out else call (sealing-tests (length text) (length out)) (sealed-with o) out)
-        by none = refl
-        by (some ss) = refl
+    unfolding sealing sealUnder settledSealing
+    sealing-door =
+        record {
+          settled = refl;
+          is-call = under-header (sealing-tests (length text) (length out)) (λ o. sealUnder o key stretch text out) sealed-with out refl (λ ss. refl);
+        }
 
     pub sealing-refused : (n : ℕ) → n ≡ settledSealing key header stretch (length text) (length out) → (n ≡ 0 → ⊥) → sealing key header stretch text out ≡ refused n out
     sealing-refused = door-refused sealing-door
 
     pub sealing-done : (n : ℕ) (strings : List Bytes) → n ≡ settledSealing key header stretch (length text) (length out) → n ≡ 0
         → readHeader header ≡ some strings → sealing key header stretch text out ≡ done (length text + stretch) (encrypt (E (keyOf key)) strings stretch text) out
-    unfolding sealed-with
     sealing-done = door-done sealing-door (omega arith, (omega arith, tt))
 
     -- what the refusals 1, 2, 3, 4 and 6 have, and what is done, sealing has
     pub sealing-in : (P : Outcome → Type 0) → P (refused 1 out) → P (refused 2 out) → P (refused 3 out) → P (refused 4 out) → P (refused 6 out)
         → ((strings : List Bytes) → P (done (length text + stretch) (encrypt (E (keyOf key)) strings stretch text) out)) → P (sealing key header stretch text out)
-    unfolding sealed-with
-    sealing-in P p1 p2 p3 p4 p6 h = door-in sealing-door P (p1, (p2, (p3, (p4, (p6, tt))))) by
-      where
-        by : (o : Option (List Bytes)) → P (sealed-with o)
-        by none = p3
-        by (some strings) = h strings
+    sealing-in P p1 p2 p3 p4 p6 = door-in sealing-door P (p1, (p2, (p3, (p4, (p6, tt)))))
 
   -- 0 says that tests 1 to 3 are passed, and 4 and 6
   pub record Fits (text out : ℕ) : Type 0 where
@@ -255,37 +260,29 @@ module _ (key header : Bytes) (stretch : ℕ) where
       then-later (opening-later c d f) n e z ∙ (λ i. first (settledCommon key header stretch) (settles (opening-later (sym p i) (sym q i) (sym r i))))
 
   module _ (sealed out : Bytes) where
-    opened-with : Option (List Bytes) → Outcome
-    opened-with none = refused 3 out
-    opened-with (some strings) = opened (decrypt (E (keyOf key)) strings stretch sealed) stretch (length sealed) out
+    abbrev opened-with : List Bytes → Outcome
+    opened-with strings = opened (decrypt (E (keyOf key)) strings stretch sealed) stretch (length sealed) out
 
     opening-door : Door (opening-tests (length sealed) (length out)) (settledOpening key header stretch (length sealed) (length out)) opened-with out
         (opening key header stretch sealed out)
-    unfolding opening openUnder settledOpening opened-with
-    opening-door = record { settled = refl; is-call = under-header (opening-tests (length sealed) (length out)) (λ o. openUnder o key stretch sealed out) opened-with out by }
-      where
-        by : (o : Option (List Bytes))
-            → openUnder o key stretch sealed out ≡ (if unreadable o then refused 3 out else call (opening-tests (length sealed) (length out)) (opened-with o) out)
-        by none = refl
-        by (some ss) = refl
+    unfolding opening openUnder settledOpening
+    opening-door =
+        record {
+          settled = refl;
+          is-call = under-header (opening-tests (length sealed) (length out)) (λ o. openUnder o key stretch sealed out) opened-with out refl (λ ss. refl);
+        }
 
     pub opening-refused : (n : ℕ) → n ≡ settledOpening key header stretch (length sealed) (length out) → (n ≡ 0 → ⊥) → opening key header stretch sealed out ≡ refused n out
     opening-refused = door-refused opening-door
 
     pub opening-opened : (n : ℕ) (strings : List Bytes) → n ≡ settledOpening key header stretch (length sealed) (length out) → n ≡ 0
         → readHeader header ≡ some strings → opening key header stretch sealed out ≡ opened (decrypt (E (keyOf key)) strings stretch sealed) stretch (length sealed) out
-    unfolding opened-with
     opening-opened = door-done opening-door (omega arith, (omega arith, (omega arith, tt)))
 
     -- what the refusals 1 to 6 have, and what is done, opening has
     pub opening-in : (P : Outcome → Type 0) → P (refused 1 out) → P (refused 2 out) → P (refused 3 out) → P (refused 4 out) → P (refused 5 out) → P (refused 6 out)
         → ((strings : List Bytes) → P (opened (decrypt (E (keyOf key)) strings stretch sealed) stretch (length sealed) out)) → P (opening key header stretch sealed out)
-    unfolding opened-with
-    opening-in P p1 p2 p3 p4 p5 p6 h = door-in opening-door P (p1, (p2, (p3, (p4, (p5, (p6, tt)))))) by
-      where
-        by : (o : Option (List Bytes)) → P (opened-with o)
-        by none = p3
-        by (some strings) = h strings
+    opening-in P p1 p2 p3 p4 p5 p6 = door-in opening-door P (p1, (p2, (p3, (p4, (p5, (p6, tt))))))
 
   pub record Openable (sealed out : ℕ) : Type 0 where
     pub common : Passed

@@ -44,6 +44,10 @@ back out w C size h kept is =
     let all : size - 0 ≡ length C = sub-zero size ∙ sym (lent-long out size h) ∙ sym kept ∙ ap length is in
     λ i. is i ++ drop (all i) out
 
+-- what opening returns and leaves, by whether the check held
+abbrev pub left : (out w : Bytes) (t : ℕ) (sealed : Bytes) → Bool → Outcome
+left out w t sealed b = record { number = if b then 0 else 7; size = if b then length sealed - t else 0; output = w ++ drop (length sealed - 0) out }
+
 -- ---- The doors: w is what the cipher left in the bytes that it was lent
 
 module _ (key header out w : Bytes) (t : ℕ) (K : figure6.Key) (key-is : K ≡ keyOf key) (bits : ℕ) (bits-are : bits ≡ 8 * t)
@@ -69,10 +73,6 @@ module _ (key header out w : Bytes) (t : ℕ) (K : figure6.Key) (key-is : K ≡ 
   module _ (sealed : Bytes) (n : ℕ) (e : n ≡ settledOpening key header t (length sealed) (length out)) (z : n ≡ 0) (r : Bool)
       (told : r ≡ opens (decryptUnder (E K) Δ t sealed)) (q : w ≡ leaves (decryptUnder (E K) Δ t sealed) t (length sealed))
       (kept : length w ≡ length (lent out (length sealed))) where
-    -- what is returned and left, by whether the check held
-    abbrev left : Bool → Outcome
-    left b = record { number = if b then 0 else 7; size = if b then length sealed - t else 0; output = w ++ drop (length sealed - 0) out }
-
     room : length sealed ≤ length out
     room = opening-fits key header t (length sealed) (length out) n e z .has-room
 
@@ -85,12 +85,12 @@ module _ (key header out w : Bytes) (t : ℕ) (K : figure6.Key) (key-is : K ≡ 
         (decrypt-under (E (keyOf key)) strings t sealed (fits .least)
         ∙ sym (λ i. decryptUnder (E (key-is i)) (delta-is strings (fits .common .reads) i) t sealed))
 
-    pub opens-by : (b : Bool) → r ≡ b → left b ≡ opening key header t sealed out
+    pub opens-by : (b : Bool) → r ≡ b → left out w t sealed b ≡ opening key header t sealed out
     unfolding opened
     opens-by b found = go b (decryptUnder (E K) Δ t sealed) (sym told ∙ found) q ∙ sym by-definition
       where
         go : (b : Bool) (o : Option Bytes) → opens o ≡ b → w ≡ leaves o t (length sealed)
-            → left b ≡ opened o t (length sealed) out
+            → left out w t sealed b ≡ opened o t (length sealed) out
         go true none p h = cc
         go false (some M) p h = cc
         go false none p h = λ i. record { number = 7; size = 0; output = h i ++ drop (sub-zero (length sealed) i) out }

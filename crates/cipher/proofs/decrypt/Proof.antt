@@ -1,6 +1,6 @@
 -- `cipher::decrypt` meets its contract.
 use mathlib.Core.Bool.{Bool, true, false}
-use mathlib.Core.Path.{_≡_, ap, sym, _∙_}
+use mathlib.Core.Path.{_≡_, sym, _∙_}
 use Prim.Native.Nat.{ℕ, _<_}
 use native.Mathlib.Omega.{arith}
 use borrow.Author.Needs.{needs}
@@ -8,7 +8,6 @@ use lib.Arith.{lt-of-le-ne}
 use lib.ListN.{length, replicate}
 use Rattle.paper.specs.Strings.{Bytes, if_then_else_}
 use Rattle.paper.specs.Figure6.{BlockFunction, E}
-use Rattle.paper.specs.Figure5.{decipher}
 use Rattle.tbc.specs.Meaning.{blocks}
 use Rattle.cipher.specs.Under.{decryptUnder, opens, leaves}
 use Rattle.cipher.proofs.Branches.{put-all, empty-answer, answer}
@@ -31,8 +30,11 @@ equal c = c .before .before
 
 -- ---- Another: each call, from the one after it
 
+abbrev lent : tie.After-same-bytes → tie.After-slice-known4
+lent c = c .before .before .before .before .before
+
 abbrev deciphered : tie.After-same-bytes → tie.After-cipher-in-place
-deciphered c = let lent : tie.After-slice-known4 = c .before .before .before .before .before in lent .before .before
+deciphered c = lent c .before .before
 
 abbrev copied : tie.After-cipher-in-place → tie.After-copy
 copied c = c .before .before .before .before
@@ -56,12 +58,6 @@ more c = lt-of-le-ne (omega (arith, start c .pre .0, start c .pre .2)) (λ e. c 
 put : (c : tie.After-copy) → c .copy .last .0 ≡ C (start (other c))
 put c = let s = start (other c) in put-all (C s) (s .args .out .now) (c .copy .last .0) (c .copy .ensures) (s .pre .0)
 
-is : (c : tie.After-cipher-in-place) → X c ≡ decipher (f (entry c)) (entry c .args .delta) (C (entry c))
-is c = c .cipher-in-place .ensures ∙ ap (decipher (f (entry c)) (entry c .args .delta)) (put (copied c))
-
-long : (c : tie.After-cipher-in-place) → length (X c) ≡ length (C (entry c))
-long c = c .cipher-in-place .kept .1 .1 .1 .0 ∙ ap length (put (copied c))
-
 -- what is returned and what is left, by what the comparison found
 answers : (c : tie.After-same-bytes) (b : Bool) → c .same-bytes .result ≡ b
     → let d = deciphered c in
@@ -71,7 +67,8 @@ answers : (c : tie.After-same-bytes) (b : Bool) → c .same-bytes .result ≡ b
 answers c b e =
     let d = deciphered c in
     let s = entry d in
-    answer (f s) (s .args .delta) (t s) (C s) (X d) (is d) (long d) (more (other (copied d))) (c .same-bytes .result) b e (s .pre .3) (c .same-bytes .ensures)
+    let mid = copied d .copy .last .0 in
+    answer (f s) (s .args .delta) (t s) (C s) mid (X d) (put (copied d)) (d .cipher-in-place .ensures) (d .cipher-in-place .kept .1 .1 .1 .0) (more (other (copied d))) (c .same-bytes .result) b e (s .pre .3) (c .same-bytes .ensures)
 
 decrypt-empty-requires : tie.Need-decrypt-empty-requires
 decrypt-empty-requires c κs = search needs

@@ -1,36 +1,18 @@
 -- `record::open` meets its contract.
 use mathlib.Core.Bool.{Bool, true, false}
-use mathlib.Core.List.{_++_}
 use mathlib.Core.Path.{_≡_, sym}
-use Prim.Native.Nat.{ℕ, _-_}
 use native.Mathlib.Omega.{arith}
 use borrow.Author.Needs.{needs}
-use lib.ListN.{length, drop}
-use Rattle.paper.specs.Strings.{Bytes, if_then_else_}
-use Rattle.paper.specs.Document01.{Outcome, opening}
+use lib.ListN.{length}
+use Rattle.paper.specs.Document01.{opening}
 use Rattle.tbc.specs.Meaning.{blocks}
 use Rattle.record.proofs.Settles.{Openable, opening-fits, opening-refused}
-use Rattle.record.proofs.Whole.{lent-long, opens-by}
+use Rattle.record.proofs.Whole.{lent-long, left, opens-by}
 use Rattle.record.proofs.open.Statement.{statement}
 use Rattle.record.proofs.open.Tie as tie
 
 abbrev start : tie.After-settled-opening → tie.Start
 start c = c .before .before .before .before .before
-
-abbrev key : tie.After-settled-opening → Bytes
-key c = start c .args .key .now
-
-abbrev header : tie.After-settled-opening → Bytes
-header c = start c .args .header .now
-
-abbrev t : tie.After-settled-opening → ℕ
-t c = start c .args .stretch .0
-
-abbrev sealed : tie.After-settled-opening → Bytes
-sealed c = start c .args .sealed .now
-
-abbrev out : tie.After-settled-opening → Bytes
-out c = start c .args .out .now
 
 -- once answers 1 to 6 are settled: each call, from the one after it
 abbrev settled : tie.After-delta → tie.Else1
@@ -39,38 +21,33 @@ settled c = c .before .before .before
 abbrev keyed : tie.After-decrypt → tie.After-delta
 keyed c = c .before .before
 
-abbrev entry : tie.After-decrypt → tie.After-settled-opening
-entry c = settled (keyed c) .before
-
-fits : (c : tie.Else1) → let s = c .before in Openable (key s) (header s) (t s) (length (sealed s)) (length (out s))
+fits : (c : tie.Else1) → let a = start (c .before) .args in Openable (a .key .now) (a .header .now) (a .stretch .0) (length (a .sealed .now)) (length (a .out .now))
 fits c =
-    let s = c .before in
-    opening-fits (key s) (header s) (t s) (length (sealed s)) (length (out s)) (s .settled-opening .result) (s .settled-opening .ensures) (c .if1 .left)
+    let n = c .before .settled-opening in
+    let a = start (c .before) .args in
+    opening-fits (a .key .now) (a .header .now) (a .stretch .0) (length (a .sealed .now)) (length (a .out .now)) (n .result) (n .ensures) (c .if1 .left)
 
--- the answer and the output, by whether the check held
-abbrev Left : tie.After-decrypt → Bool → Outcome
-Left c b = let s = entry c in record {
-  number = if b then 0 else 7;
-  size = if b then length (sealed s) - t s else 0;
-  output = c .decrypt .last .1 .1 .1 .1 .0 ++ drop (length (sealed s) - 0) (out s);
-}
-
-answers : (c : tie.After-decrypt) (b : Bool) → c .decrypt .result ≡ b → let s = entry c in Left c b ≡ opening (key s) (header s) (t s) (sealed s) (out s)
-answers w b is =
+-- what is returned and left, by whether the check held
+answers : (c : tie.After-decrypt) (b : Bool) → c .decrypt .result ≡ b
+    → let a = start (settled (keyed c) .before) .args in
+    left (a .out .now) (c .decrypt .last .1 .1 .1 .1 .0) (a .stretch .0) (a .sealed .now) b ≡ opening (a .key .now) (a .header .now) (a .stretch .0) (a .sealed .now) (a .out .now)
+answers w =
     let d = keyed w in
     let e = settled d in
-    let s = e .before in
+    let n = e .before .settled-opening in
+    let a = start (e .before) .args in
     let k = d .before .before .key-of in
-    opens-by (key s) (header s) (out s) (w .decrypt .last .1 .1 .1 .1 .0) (t s) (blocks (k .result)) (k .ensures) (d .before .bits .result .0) (d .before .bits .ensures) (d .delta .result) (d .delta .ensures)
-    (sealed s) (s .settled-opening .result) (s .settled-opening .ensures) (e .if1 .left) (w .decrypt .result) (w .decrypt .ensures .0) (w .decrypt .ensures .1) (w .decrypt .kept .1 .1 .1 .1 .0) b is
+    opens-by (a .key .now) (a .header .now) (a .out .now) (w .decrypt .last .1 .1 .1 .1 .0) (a .stretch .0) (blocks (k .result)) (k .ensures) (d .before .bits .result .0) (d .before .bits .ensures) (d .delta .result) (d .delta .ensures)
+    (a .sealed .now) (n .result) (n .ensures) (e .if1 .left) (w .decrypt .result) (w .decrypt .ensures .0) (w .decrypt .ensures .1) (w .decrypt .kept .1 .1 .1 .1 .0)
 
 settled-opening-requires : tie.Need-settled-opening-requires
 settled-opening-requires c κs = search needs
 
 returns : tie.Need-returns
 returns c =
-    let s = c .before in
-    sym (opening-refused (key s) (header s) (t s) (sealed s) (out s) (s .settled-opening .result) (s .settled-opening .ensures) (c .if1 .taken))
+    let n = c .before .settled-opening in
+    let a = start (c .before) .args in
+    sym (opening-refused (a .key .now) (a .header .now) (a .stretch .0) (a .sealed .now) (a .out .now) (n .result) (n .ensures) (c .if1 .taken))
 
 key-of-requires : tie.Need-key-of-requires
 key-of-requires c κs = fits c .common .key-long
@@ -93,8 +70,8 @@ part-decrypt-end c = fits (settled c) .has-room
 decrypt-requires : tie.Need-decrypt-requires
 decrypt-requires c κs =
     let e = settled (c .before) in
-    let s = e .before in
-    let long = lent-long (out s) (length (sealed s)) (fits e .has-room) in
+    let a = start (e .before) .args in
+    let long = lent-long (a .out .now) (length (a .sealed .now)) (fits e .has-room) in
     (sym long, omega (arith, long, fits e .within), omega (arith, long, fits e .least), fits e .common .short)
 
 sub-t19 : tie.Need-sub-t19
