@@ -49,38 +49,34 @@ fn number(s: &[u8]) -> u64 {
     n
 }
 
-// The bytes of hex digits, two for each byte, as far as there are any.
-fn unhex(s: &[u8], out: &mut [u8]) {
+// The bytes of hex digits, two for each byte, put first.
+fn unhex(s: &mut [u8]) {
     let mut i: usize = 0;
-    let mut j: usize = 0;
-    while i < out.len() {
-        if s.len() - j < 2 {
-            return;
-        }
-        let high = nibble(s[j]);
-        let low = nibble(s[j + 1]);
-        out[i] = high * 16 + low;
+    while i < s.len() / 2 {
+        let high = nibble(s[2 * i]);
+        let low = nibble(s[2 * i + 1]);
+        s[i] = high * 16 + low;
         i += 1;
-        j += 2;
     }
 }
 
-// Reads a line of hex digits for n bytes into out.
-fn field(n: usize, line: &mut [u8], out: &mut [u8]) -> bool {
+// Reads a line of hex digits for n bytes, which are put into s from there on.
+fn field(n: usize, at: usize, s: &mut [u8]) -> bool {
     if 65600 < n {
         return false;
     }
-    if out.len() < n {
+    if s.len() < at {
         return false;
     }
     let k = 2 * n + 1;
-    if line.len() < k {
+    if s.len() - at < k {
         return false;
     }
-    if io::read_full(0, &mut line[0..k]) != k {
+    let e = at + k;
+    if io::read_full(0, &mut s[at..e]) != k {
         return false;
     }
-    unhex(&line[0..k], &mut out[0..n]);
+    unhex(&mut s[at..e]);
     true
 }
 
@@ -104,101 +100,94 @@ fn to_hex(s: &[u8], line: &mut [u8]) -> usize
 }
 
 // Writes an answer, and the whole output in hex on the next line.
-fn show(answer: Answer, out: &[u8], line: &mut [u8]) {
+fn show(answer: Answer, out: &[u8]) {
     io::print_hex(1, answer.number as u64, 1);
     io::write_all(1, b" ");
     io::print_hex(1, answer.length as u64, 1);
     io::write_all(1, b"\n");
-    let k = to_hex(out, line);
+    let mut line = [0u8; 131202];
+    let k = to_hex(out, &mut line);
     io::write_all(1, &line[0..k]);
     io::write_all(1, b"\n");
 }
 
-// Makes the call that a vector's first letter names.
-fn call(which: u8, stretch: u64, a: &[u8], b: &[u8], c: &[u8], d: &[u8], out: &mut [u8]) -> Answer {
-    if which == b's' {
-        return record::seal(a, b, StretchBytes(stretch), c, out);
-    }
-    if which == b'o' {
-        return record::open(a, b, StretchBytes(stretch), c, out);
-    }
-    header::log_header(a, b, c, d, out)
-}
-
-// The bytes of a vector's strings.
-struct Sizes {
+// A vector's first line: the call, the stretch, the bytes of output and of each string.
+struct First {
+    which: u8,
+    stretch: u64,
+    room: usize,
     a: usize,
     b: usize,
     c: usize,
     d: usize,
 }
 
-// Reads the strings of a vector; answers whether they were there.
-fn strings(
-    n: Sizes,
-    line: &mut [u8],
-    a: &mut [u8],
-    b: &mut [u8],
-    c: &mut [u8],
-    d: &mut [u8],
-) -> bool {
-    if !field(n.a, line, a) {
-        return false;
+// The first line from its bytes.
+fn first_line(s: [u8; 64]) -> First {
+    First {
+        which: s[0],
+        stretch: number(&s[2..18]),
+        room: number(&s[19..27]) as usize,
+        a: number(&s[28..36]) as usize,
+        b: number(&s[37..45]) as usize,
+        c: number(&s[46..54]) as usize,
+        d: number(&s[55..63]) as usize,
     }
-    if !field(n.b, line, b) {
-        return false;
-    }
-    if !field(n.c, line, c) {
-        return false;
-    }
-    field(n.d, line, d)
 }
 
-// Makes the call of a vector with the strings' fronts and so much of out, and shows what came of it.
-fn answer(
-    first: &[u8],
-    n: Sizes,
-    line: &mut [u8],
-    a: &[u8],
-    b: &[u8],
-    c: &[u8],
-    d: &[u8],
-    out: &mut [u8],
-) -> bool {
-    if first.len() < 64 {
+// Reads the strings of a vector, each to its place; answers whether they were there.
+fn strings(v: First, s: &mut [u8]) -> bool {
+    if !field(v.a, 0, s) {
         return false;
     }
-    let na = n.a;
-    let nb = n.b;
-    let nc = n.c;
-    let nd = n.d;
-    let room = number(&first[19..27]) as usize;
-    if a.len() < na {
+    if !field(v.b, 65600, s) {
         return false;
     }
-    if b.len() < nb {
+    if !field(v.c, 131200, s) {
         return false;
     }
-    if c.len() < nc {
+    field(v.d, 196800, s)
+}
+
+// The n bytes of s from there on, or none where s has not as many.
+fn part(s: &[u8], at: usize, n: usize) -> &[u8] {
+    if s.len() < at {
+        return &s[0..0];
+    }
+    if s.len() - at < n {
+        return &s[0..0];
+    }
+    &s[at..at + n]
+}
+
+// Makes the call that a vector's first letter names.
+fn call(v: First, s: &[u8], out: &mut [u8]) -> Answer {
+    let a = part(s, 0, v.a);
+    let b = part(s, 65600, v.b);
+    let c = part(s, 131200, v.c);
+    if v.which == b's' {
+        return record::seal(a, b, StretchBytes(v.stretch), c, out);
+    }
+    if v.which == b'o' {
+        return record::open(a, b, StretchBytes(v.stretch), c, out);
+    }
+    header::log_header(a, b, c, part(s, 196800, v.d), out)
+}
+
+// Makes the call of a vector, and shows what came of it.
+fn answer(v: First, s: &[u8], out: &mut [u8]) {
+    let r = call(v, s, out);
+    show(r, out);
+}
+
+// The same with so much of an output as the vector asks for; answers whether there is as much.
+fn answer_with_room(v: First, s: &[u8]) -> bool {
+    let room = v.room;
+    if 65600 < room {
         return false;
     }
-    if d.len() < nd {
-        return false;
-    }
-    if out.len() < room {
-        return false;
-    }
-    let stretch = number(&first[2..18]);
-    let r = call(
-        first[0],
-        stretch,
-        &a[0..na],
-        &b[0..nb],
-        &c[0..nc],
-        &d[0..nd],
-        &mut out[0..room],
-    );
-    show(r, &out[0..room], line);
+    let mut out = [165u8; 65600];
+    answer(v, s, &mut out[0..room]);
     true
 }
 
@@ -208,22 +197,12 @@ fn vector() -> bool {
     if io::read_full(0, &mut first) != 64 {
         return false;
     }
-    let n = Sizes {
-        a: number(&first[28..36]) as usize,
-        b: number(&first[37..45]) as usize,
-        c: number(&first[46..54]) as usize,
-        d: number(&first[55..63]) as usize,
-    };
-    let mut line = [0u8; 131202];
-    let mut a = [0u8; 65600];
-    let mut b = [0u8; 65600];
-    let mut c = [0u8; 65600];
-    let mut d = [0u8; 65600];
-    let mut out = [165u8; 65600];
-    if !strings(n, &mut line, &mut a, &mut b, &mut c, &mut d) {
+    let v = first_line(first);
+    let mut s = [0u8; 328002];
+    if !strings(v, &mut s) {
         return false;
     }
-    answer(&first, n, &mut line, &a, &b, &c, &d, &mut out)
+    answer_with_room(v, &s)
 }
 
 // A proved loop has to end, and nothing says that the input does: the turns are counted.
