@@ -3,12 +3,12 @@ use mathlib.Core.List.{_++_, append-nil}
 use mathlib.Core.Path.{_≡_, refl, ap, ap₂, sym, _∙_}
 use Prim.Native.Nat.{ℕ, _+_, _-_, _*_, _/_, _≤_, _<_, min}
 use native.Mathlib.Decide.{decLe}
-use native.Mathlib.Numerals.{add-one}
 use native.Mathlib.Omega.{arith}
 use lib.ListN.{length, take, drop, length-append, length-drop, drop-of-length-le}
 use lib.Seq.{length-take-le, take-all, take-nil, take-at, take-append-add}
 use Rattle.paper.specs.Strings.{Bytes, join}
 use Rattle.laws.proofs.Fronts.{lent-end}
+use Rattle.laws.proofs.Joins.{join-more}
 use Rattle.hash.specs.Fitted.{fitted}
 
 -- what was put at the front, cut to 16 bytes, is what fits
@@ -49,10 +49,6 @@ unfolding fitted
 fitted-length D y e =
     length-append (take (min (length D) 16) y) (drop (min (length D) 16) D)
     ∙ omega (arith, length-take-le (min (length D) 16) y (omega arith), length-drop (min (length D) 16) D)
-
-join-more : (i : ℕ) (f : ℕ → Bytes) → join (i + 1) f ≡ join i f ++ f (i + 1)
-unfolding join
-join-more i f = ap (λ (n : ℕ). join n f) (add-one i) ∙ ap (λ (n : ℕ). join i f ++ f n) (sym (add-one i))
 
 -- a buffer whose end was lent and came back with y at its front
 lent : (out y : Bytes) (at : ℕ) (ys : Bytes) → at ≤ length out → ys ≡ fitted (take (length out - at) (drop at out)) y

@@ -47,7 +47,7 @@ module _ (E : BlockFunction) (E-block : GivesBlocks E) where
     unfolding Xᵢ
     Xᵢ-block i a b = ⊕-block (M′ᵢ-block M long p i a b) (E-block (row 0) 0 _ (Wᵢ-block i a b))
 
-    pub X-added : Xall E Δ x y M ≡ uvAdded E d (sum m (Xᵢ E Δ x y M)) (Mu M) (Mv M)
+    X-added : Xall E Δ x y M ≡ uvAdded E d (sum m (Xᵢ E Δ x y M)) (Mu M) (Mv M)
     unfolding Xall
     X-added = refl
 
@@ -107,11 +107,11 @@ module _ (E : BlockFunction) (E-block : GivesBlocks E) where
     unfolding Cv
     Cv-at b e = ap (λ (b : Bool). if b then [] else Mv M ⊕ E minus1 5 (Sall E Δ x y M)) e
 
-    pub Cv-bytes : (b : Bool) → leb d 15 ≡ b → Digits 8 (if b then 0 else d - 16) (Cv E Δ x y M)
+    Cv-bytes : (b : Bool) → leb d 15 ≡ b → Digits 8 (if b then 0 else d - 16) (Cv E Δ x y M)
     Cv-bytes true e = subst⁻¹ (Digits 8 0) (Cv-at true e) (zero-digits 8 0)
     Cv-bytes false e = subst⁻¹ (Digits 8 (d - 16)) (Cv-at false e) (⊕-digits (Mv-bytes M long p false e) (E-block minus1 5 _ S-block) (omega arith))
 
-    pub Y-added : Yall E Δ x y M ≡ uvAdded E d (sum m (Yᵢ E Δ x y M)) (Cu E Δ x y M) (Cv E Δ x y M)
+    Y-added : Yall E Δ x y M ≡ uvAdded E d (sum m (Yᵢ E Δ x y M)) (Cu E Δ x y M) (Cv E Δ x y M)
     unfolding Yall
     Y-added = refl
 

@@ -61,7 +61,7 @@ module _ (M : Bytes) (long : 32 ≤ length M) (p : Digits 8 (length M) M) where
   pub M′ᵢ-block : UpTo m (λ i. Block (M′ᵢ M i))
   M′ᵢ-block i a b = part (32 * (i - 1) + 16) 16 (omega (arith, whole)) p
 
-  pub Muv-bytes : Digits 8 d (Muv M)
+  Muv-bytes : Digits 8 d (Muv M)
   Muv-bytes = part (32 * m) d (omega (arith, whole)) p
 
   pub Mx-block : Block (Mx M)
@@ -85,7 +85,7 @@ module _ (M : Bytes) (long : 32 ≤ length M) (p : Digits 8 (length M) M) where
   Mu-Mv false e = rw e (take-append-drop 16 (Muv M))
 
   -- the pairs are the first 32 m bytes
-  pub pairs-joined : (k : ℕ) → join k (λ i. Mᵢ M i ++ M′ᵢ M i) ≡ take (32 * k) M
+  pairs-joined : (k : ℕ) → join k (λ i. Mᵢ M i ++ M′ᵢ M i) ≡ take (32 * k) M
   unfolding join
   pairs-joined zero = refl
   pairs-joined (suc k) =

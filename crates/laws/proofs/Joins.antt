@@ -48,7 +48,7 @@ pub join-digits : (m : ℕ) (f : ℕ → Bytes) → UpTo m (λ i. Digits 8 32 (f
 join-digits m f h = join-bytes 32 m f h
 
 -- strings of 32 entries joined: how long that is
-pub join-long : (m : ℕ) (f : ℕ → Bytes) → UpTo m (λ i. length (f i) ≡ 32) → length (join m f) ≡ 32 * m
+join-long : (m : ℕ) (f : ℕ → Bytes) → UpTo m (λ i. length (f i) ≡ 32) → length (join m f) ≡ 32 * m
 unfolding join
 join-long zero f h = refl
 join-long (suc m) f h =
