@@ -9,7 +9,7 @@ use borrow.Author.Tests.{eqb-true, eqb-false, ltb-false}
 use lib.Dec.{eqb, ltb}
 use lib.ListN.{length, length-append}
 use Rattle.paper.specs.Strings.{Bytes, Below, if_then_else_, digits}
-use Rattle.paper.specs.Document01.{Outcome, refused, done, longestString, writeStrings, writeHeader, optional, logItems, logHeader, buildingLogHeader}
+use Rattle.paper.specs.Document01.{Outcome, refused, done, longestString, writeStrings, writeHeader, logItems, logHeader, buildingLogHeader}
 use Rattle.laws.proofs.BitStrings.{length-digits}
 use Rattle.laws.proofs.Demand3 as laws
 use Rattle.laws.proofs.Demand3.{Fixed}
@@ -55,10 +55,6 @@ opened-length key header t C out r last k h b call z =
 
 -- ---- The log header
 
--- what an item adds that is left out where it has no bytes
-abbrev pub unlessEmpty : Bytes → ℕ
-unlessEmpty s = if eqb (length s) 0 then 0 else 2 + length s
-
 strings-length : (s : Bytes) (ss : List Bytes) → length (writeStrings (s ∷ ss)) ≡ 2 + length s + length (writeStrings ss)
 unfolding writeStrings
 strings-length s ss = omega (arith, length-append (digits 256 2 (length s) ++ s) (writeStrings ss), length-append (digits 256 2 (length s)) s, length-digits 256 2 (length s))
@@ -67,29 +63,16 @@ no-strings : length (writeStrings []) ≡ 0
 unfolding writeStrings
 no-strings = refl
 
-optional-length : (s : Bytes) (ss : List Bytes) → length (writeStrings (optional s ss)) ≡ unlessEmpty s + length (writeStrings ss)
-optional-length s ss = go (eqb (length s) 0)
-  where
-    go : (b : Bool) → length (writeStrings (if b then ss else s ∷ ss)) ≡ (if b then 0 else 2 + length s) + length (writeStrings ss)
-    go true = omega arith
-    go false = strings-length s ss
-
 module _ (nonce host collector locale : Bytes) where
-  header-length : length (logHeader nonce host collector locale) ≡ 1 + (2 + length nonce) + (2 + length host) + unlessEmpty collector + unlessEmpty locale
+  header-length : length (logHeader nonce host collector locale) ≡ 1 + (2 + length nonce) + (2 + length host) + (2 + length collector) + (2 + length locale)
   unfolding logHeader logItems writeHeader
   header-length =
-      omega (
-        arith,
-        strings-length nonce (host ∷ optional collector (optional locale [])),
-        strings-length host (optional collector (optional locale [])),
-        optional-length collector (optional locale []),
-        optional-length locale [],
-        no-strings,
-      )
+      omega
+      (arith, strings-length nonce (host ∷ collector ∷ locale ∷ []), strings-length host (collector ∷ locale ∷ []), strings-length collector (locale ∷ []), strings-length locale [], no-strings)
 
-  -- the builder: the count, and each string that is written after its two bytes of length
+  -- the builder: the count, and each of the four items after its two bytes of length
   pub log-header-length : (out : Bytes) → buildingLogHeader nonce host collector locale out .number ≡ 0
-      → (buildingLogHeader nonce host collector locale out .size ≡ 1 + (2 + length nonce) + (2 + length host) + unlessEmpty collector + unlessEmpty locale)
+      → (buildingLogHeader nonce host collector locale out .size ≡ 1 + (2 + length nonce) + (2 + length host) + (2 + length collector) + (2 + length locale))
       × (buildingLogHeader nonce host collector locale out .size ≤ length out)
   unfolding buildingLogHeader
   log-header-length out =
@@ -103,7 +86,7 @@ module _ (nonce host collector locale : Bytes) where
       answer a b = if a then refused 8 out else if b then refused 6 out else done (length header) header out
 
       go : (a b : Bool) → ltb (length out) (length header) ≡ b → answer a b .number ≡ 0
-          → (answer a b .size ≡ 1 + (2 + length nonce) + (2 + length host) + unlessEmpty collector + unlessEmpty locale) × (answer a b .size ≤ length out)
+          → (answer a b .size ≡ 1 + (2 + length nonce) + (2 + length host) + (2 + length collector) + (2 + length locale)) × (answer a b .size ≤ length out)
       go true b e z = absurd (omega (arith, z))
       go false true e z = absurd (omega (arith, z))
       go false false e z = (header-length, omega (arith, ltb-false (length out) (length header) e))

@@ -2,5 +2,6 @@
 pub mod Demands
 pub mod Numbers
 pub mod Lengths
+pub mod LogHeaders
 pub mod Determined
 pub mod Composes

@@ -1,15 +1,15 @@
--- What is written of the log header's items, part by part. The rule on what is left out is opened here only.
+-- What is written of the log header's items, part by part.
 use mathlib.Core.Bool.{Bool, true, false, _||_, true≢false}
 use mathlib.Core.List.{List, [], _∷_, _++_, append-assoc, append-nil}
 use mathlib.Core.Path.{_≡_, refl, ap, sym, _∙_}
-use Prim.Native.Nat.{suc, _+_, _/_, _%_, _≤_, _<_}
+use Prim.Native.Nat.{_+_, _/_, _%_, _≤_, _<_}
 use native.Mathlib.Omega.{arith}
-use borrow.Author.Tests.{ltb-false, not-true, not-false, lt-ltb, le-ltb}
-use lib.Dec.{eqb, ltb}
+use borrow.Author.Tests.{ltb-false, lt-ltb, le-ltb}
+use lib.Dec.{ltb}
 use lib.ListN.{length, length-append}
-use Rattle.paper.specs.Strings.{Bytes, if_then_else_, digits}
-use Rattle.paper.specs.Document01.{writeStrings, writeHeader, optional, logItems, logHeader, refused, done, buildingLogHeader}
-use Rattle.header.specs.Building.{tooLong, kept}
+use Rattle.paper.specs.Strings.{Bytes, digits}
+use Rattle.paper.specs.Document01.{writeStrings, writeHeader, logItems, logHeader, refused, done, buildingLogHeader}
+use Rattle.header.specs.Building.{tooLong}
 
 -- ---- Strings
 
@@ -28,48 +28,25 @@ write-one s = append-nil (digits 256 2 (length s) ++ s)
 pub one-long : (s : Bytes) → length (writeStrings (s ∷ [])) ≡ 2 + length s
 one-long s = ap length (write-one s) ∙ omega arith
 
--- ---- An item that may be left out, by what a test found
-
-pub optional-kept : (s : Bytes) {b : Bool} → b ≡ kept s → b ≡ true → optional s [] ≡ s ∷ []
-optional-kept s p q = ap (λ (b : Bool). if b then [] else s ∷ []) (not-true (eqb (length s) 0) (sym p ∙ q))
-
-pub optional-left : (s : Bytes) {b : Bool} → b ≡ kept s → b ≡ false → optional s [] ≡ []
-optional-left s p q = ap (λ (b : Bool). if b then [] else s ∷ []) (not-false (eqb (length s) 0) (sym p ∙ q))
-
--- what is written of an item that is left out
-pub nothing-written : (s : Bytes) {b : Bool} → b ≡ kept s → b ≡ false → writeStrings (optional s []) ≡ []
-unfolding writeStrings
-nothing-written s p q = ap writeStrings (optional-left s p q)
-
-optional-front : (s : Bytes) (ss : List Bytes) → optional s ss ≡ optional s [] ++ ss
-optional-front s ss = go (eqb (length s) 0)
-  where
-    go : (b : Bool) → (if b then ss else s ∷ ss) ≡ (if b then [] else s ∷ []) ++ ss
-    go true = refl
-    go false = refl
-
 -- ---- The log header
 
--- the count, and the four parts after each other
-pub log-parts : (nonce host collector locale : Bytes) → logHeader nonce host collector locale ≡ ((2 + length (optional collector []) + length (optional locale [])) ∷ []) ++ writeStrings (nonce ∷ []) ++ writeStrings (host ∷ []) ++ writeStrings (optional collector []) ++ writeStrings (optional locale [])
+-- the count, and the four strings after each other
+pub log-parts : (nonce host collector locale : Bytes) → logHeader nonce host collector locale ≡ (4 ∷ []) ++ writeStrings (nonce ∷ []) ++ writeStrings (host ∷ []) ++ writeStrings (collector ∷ []) ++ writeStrings (locale ∷ [])
 unfolding logHeader logItems writeHeader
 log-parts nonce host collector locale =
-    let c = optional collector [] in
-    let l = optional locale [] in
-    let items : logItems nonce host collector locale ≡ (nonce ∷ []) ++ (host ∷ []) ++ c ++ l = ap (λ (ss : List Bytes). nonce ∷ host ∷ ss) (optional-front collector l) in
-    let count : suc (suc (length (c ++ l))) ≡ 2 + length c + length l = omega (arith, length-append c l) in
-    let bytes =
-    write-append ((nonce ∷ []) ++ (host ∷ []) ++ c) l
-    ∙ ap (λ (r : Bytes). r ++ writeStrings l) (write-append ((nonce ∷ []) ++ (host ∷ [])) c)
-    ∙ ap (λ (r : Bytes). r ++ writeStrings c ++ writeStrings l) (write-append (nonce ∷ []) (host ∷ [])) in
-    ap writeHeader items ∙ (λ i. count i ∷ bytes i)
+    let n = nonce ∷ [] in
+    let h = host ∷ [] in
+    let c = collector ∷ [] in
+    ap (λ (r : Bytes). 4 ∷ r)
+    (write-append (n ++ h ++ c) (locale ∷ [])
+    ∙ ap (λ (r : Bytes). r ++ writeStrings (locale ∷ [])) (write-append (n ++ h) c ∙ ap (λ (r : Bytes). r ++ writeStrings c) (write-append n h)))
 
-pub log-long : (nonce host collector locale : Bytes) → length (logHeader nonce host collector locale) ≡ 1 + (length (writeStrings (nonce ∷ [])) + length (writeStrings (host ∷ []))) + length (writeStrings (optional collector [])) + length (writeStrings (optional locale []))
+pub log-long : (nonce host collector locale : Bytes) → length (logHeader nonce host collector locale) ≡ 1 + length (writeStrings (nonce ∷ [])) + length (writeStrings (host ∷ [])) + length (writeStrings (collector ∷ [])) + length (writeStrings (locale ∷ []))
 log-long nonce host collector locale =
     let n = writeStrings (nonce ∷ []) in
     let h = writeStrings (host ∷ []) in
-    let c = writeStrings (optional collector []) in
-    let l = writeStrings (optional locale []) in
+    let c = writeStrings (collector ∷ []) in
+    let l = writeStrings (locale ∷ []) in
     ap length (log-parts nonce host collector locale)
     ∙ omega (arith, length-append (n ++ h ++ c) l, length-append (n ++ h) c, length-append n h)
 

@@ -5,10 +5,10 @@ ghost use mathlib.Core.List.{[], _∷_};
 ghost use mathlib.Core.Path.{_≡_};
 ghost use Prim.Native.Nat.{_+_, _<_, _≤_};
 ghost use lib.ListN.{length};
-ghost use Rattle.paper.specs.Document01.{readHeader, writeStrings, optional, logHeader, buildingLogHeader};
+ghost use Rattle.paper.specs.Document01.{readHeader, writeStrings, logHeader, buildingLogHeader};
 ghost use Rattle.header.specs.Places.{entryAt, Within, countOf, Few, readOf};
 ghost use Rattle.answer.specs.Outcomes.{outcome};
-ghost use Rattle.header.specs.Building.{tooLong, settledAs, kept, placed};
+ghost use Rattle.header.specs.Building.{tooLong, settledAs, placed};
 
 // A string's start and end in the header, or an entry that does not read.
 pub enum Place {
@@ -113,23 +113,6 @@ fn too_long(nonce: &[u8], host: &[u8], collector: &[u8], locale: &[u8]) -> bool
     false
 }
 
-// Whether an item that may be left out is written. The count, the length and the writing all ask here, so that they agree.
-fn written(item: &[u8]) -> bool
-    ensures { λ r. ⌜ r ≡ kept (now (item .entry)) ⌝ }
-{
-    item.len() != 0
-}
-
-// How many strings an item that may be left out adds.
-fn optional_count(item: &[u8]) -> u8
-    ensures { λ r. ⌜ (r ≡ length (optional (now (item .entry)) [])) × (r ≤ 1) ⌝ }
-{
-    if written(item) {
-        return 1;
-    }
-    0
-}
-
 // How many bytes a string takes with its length in front.
 fn room(s: &[u8]) -> usize
     requires { ⌜ length (now s) ≤ 1024 ⌝ }
@@ -138,24 +121,12 @@ fn room(s: &[u8]) -> usize
     2 + s.len()
 }
 
-// How many bytes an item that may be left out adds.
-fn optional_room(item: &[u8]) -> usize
-    requires { ⌜ length (now item) ≤ 1024 ⌝ }
-    ensures { λ r. ⌜ (r ≡ length (writeStrings (optional (now (item .entry)) []))) × (r ≤ 1026) ⌝ }
-{
-    if written(item) {
-        return room(item);
-    }
-    0
-}
-
 // The length of the log header, its count byte included.
 fn log_length(nonce: &[u8], host: &[u8], collector: &[u8], locale: &[u8]) -> usize
     requires { ⌜ (length (now nonce) ≤ 1024) × (length (now host) ≤ 1024) × (length (now collector) ≤ 1024) × (length (now locale) ≤ 1024) ⌝ }
     ensures { λ r. ⌜ r ≡ length (logHeader (now (nonce .entry)) (now (host .entry)) (now (collector .entry)) (now (locale .entry))) ⌝ }
 {
-    let always = room(nonce) + room(host);
-    1 + always + optional_room(collector) + optional_room(locale)
+    1 + room(nonce) + room(host) + room(collector) + room(locale)
 }
 
 // A string put at a place of out with its length in front, high byte first. The place after it is returned.
@@ -170,27 +141,16 @@ fn put(out: &mut [u8], at: usize, s: &[u8]) -> usize
     at + 2 + size
 }
 
-// An item that may be left out put at a place of out. The place after it is returned.
-fn put_optional(out: &mut [u8], at: usize, item: &[u8]) -> usize
-    requires { ⌜ at + length (writeStrings (optional (now item) [])) ≤ length (now out) ⌝ }
-    ensures { λ r. ⌜ (r ≡ at + length (writeStrings (optional (now (item .entry)) []))) × (now (out .exit) ≡ placed at (writeStrings (optional (now (item .entry)) [])) (now (out .entry))) ⌝ }
-{
-    if written(item) {
-        return put(out, at, item);
-    }
-    at
-}
-
-// The log header put first in out.
+// The log header put first in out: the count, and all four items, one without bytes as a string of length 0 (request E2).
 fn put_log(nonce: &[u8], host: &[u8], collector: &[u8], locale: &[u8], out: &mut [u8])
     requires { ⌜ length (logHeader (now nonce) (now host) (now collector) (now locale)) ≤ length (now out) ⌝ }
     ensures { λ _. ⌜ now (out .exit) ≡ placed 0 (logHeader (now (nonce .entry)) (now (host .entry)) (now (collector .entry)) (now (locale .entry))) (now (out .entry)) ⌝ }
 {
-    out[0] = 2 + optional_count(collector) + optional_count(locale);
+    out[0] = 4;
     let second = put(out, 1, nonce);
     let third = put(out, second, host);
-    let fourth = put_optional(out, third, collector);
-    put_optional(out, fourth, locale);
+    let fourth = put(out, third, collector);
+    put(out, fourth, locale);
 }
 
 // What the builder answers for a room of so many bytes: 8 for an item that is too long, then 6 for a room that is too short, else 0.

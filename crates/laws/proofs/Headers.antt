@@ -7,12 +7,12 @@ use mathlib.Core.Path.{_≡_, refl, ap, ap₂, sym, subst, _∙_}
 use Prim.Native.Nat.{ℕ, zero, suc, _+_, _*_, _/_, _%_, _≤_, _<_}
 use native.Mathlib.Omega.{arith}
 use borrow.Author.Tests.{leb-true, le-leb}
-use lib.Dec.{eqb, leb}
+use lib.Dec.{leb}
 use lib.ListN.{length, getD, take, drop, length-append, take-append-drop}
 use lib.Seq.{length-take-le, take-append-seam, drop-append-seam}
 use Rattle.paper.specs.Strings.{Bytes, Below, if_then_else_, digits, number}
 use Rattle.paper.specs.Figure5.{tweak}
-use Rattle.paper.specs.Document01.{mostStrings, longestString, inFront, readStrings, readHeader, writeStrings, writeHeader, optional, logItems, logHeader}
+use Rattle.paper.specs.Document01.{mostStrings, longestString, inFront, readStrings, readHeader, writeStrings, writeHeader, logItems, logHeader}
 use Rattle.laws.proofs.Digits.{below-take, below-drop}
 use Rattle.laws.proofs.BitStrings.{number-64}
 
@@ -164,17 +164,20 @@ same-tweak s t NA NB p q e =
 
 -- ---- The log header
 
--- an item that may be left out adds at most one string, which fits
-optional-fits : (s : Bytes) (ss : List Bytes) (n : ℕ) → Fits s → (length ss ≤ n) × AllFit ss → (length (optional s ss) ≤ suc n) × AllFit (optional s ss)
-optional-fits s ss n p q = go (eqb (length s) 0)
-  where
-    go : (b : Bool) → (length (if b then ss else s ∷ ss) ≤ suc n) × AllFit (if b then ss else s ∷ ss)
-    go true = (omega (arith, q .0), q .1)
-    go false = (omega (arith, q .0), (p, q .1))
+module _ (nonce host collector locale : Bytes) (p : Fits nonce) (q : Fits host) (r : Fits collector) (s : Fits locale) where
+  -- the log header reads, with exactly the four items
+  pub log-header-reads : readHeader (logHeader nonce host collector locale) ≡ some (nonce ∷ host ∷ collector ∷ locale ∷ [])
+  unfolding logHeader logItems
+  log-header-reads =
+      write-read (nonce ∷ host ∷ collector ∷ locale ∷ []) (record { least = omega arith; most = omega arith; each = (p, (q, (r, (s, tt)))) })
 
--- the log header reads back as its items
-pub log-header-reads : (nonce host collector locale : Bytes) → Fits nonce → Fits host → Fits collector → Fits locale → readHeader (logHeader nonce host collector locale) ≡ some (logItems nonce host collector locale)
-unfolding logHeader logItems
-log-header-reads nonce host collector locale p q r s =
-    let o = optional-fits collector (optional locale []) 1 r (optional-fits locale [] 0 s (omega arith, tt)) in
-    write-read (logItems nonce host collector locale) (record { least = omega arith; most = omega (arith, o .0); each = (p, (q, o .1)) })
+-- two sets of four items have equal headers only if all four are equal
+pub same-items : (nonce host collector locale nonce′ host′ collector′ locale′ : Bytes)
+    → Fits nonce → Fits host → Fits collector → Fits locale → Fits nonce′ → Fits host′ → Fits collector′ → Fits locale′
+    → logHeader nonce host collector locale ≡ logHeader nonce′ host′ collector′ locale′
+    → (nonce ≡ nonce′) × (host ≡ host′) × (collector ≡ collector′) × (locale ≡ locale′)
+same-items a b c d a′ b′ c′ d′ p q r s p′ q′ r′ s′ e =
+    let one = log-header-reads a b c d p q r s in
+    let other = log-header-reads a′ b′ c′ d′ p′ q′ r′ s′ in
+    let both-read : readHeader (logHeader a b c d) ≡ readHeader (logHeader a′ b′ c′ d′) = ap readHeader e in
+    ((cc), (cc), (cc), (cc))

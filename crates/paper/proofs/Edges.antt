@@ -1,12 +1,13 @@
--- Two places where a definition is easily mistaken, computed over any keys, blocks and block function.
+-- Places where a definition is easily mistaken, computed: over any keys, blocks and block function, and request E2's example.
 use mathlib.Core.List.{[], _∷_}
 use mathlib.Core.Path.{_≡_, refl}
 use Prim.Native.Nat.{ℕ}
-use Rattle.paper.specs.Strings.{Bytes, tab, _⊕_, pad10*, sum}
+use Rattle.paper.specs.Strings.{Bytes, tab, _⊕_, pad10*, digits, sum}
 use Rattle.paper.specs.Fips197.{SubBytes, ShiftRows, MixColumns}
 use Rattle.paper.specs.Section7.{zeros, aesenc, rounds, AES}
 use Rattle.paper.specs.Figure6.{row, BlockFunction}
 use Rattle.paper.specs.Figure5.{X}
+use Rattle.paper.specs.Document01.{writeStrings, writeHeader, logItems, logHeader}
 
 -- the last round keeps its MixColumns
 pub last-MixColumns : (K0 K1 B : Bytes) → AES (K0 ∷ K1 ∷ []) B ≡ MixColumns (ShiftRows (SubBytes (B ⊕ K0))) ⊕ K1
@@ -17,3 +18,14 @@ last-MixColumns K0 K1 B = refl
 pub empty-v : (E : BlockFunction) (Δ : Bytes) (x y : ℕ) → X E Δ x y (tab 48 (λ i. i)) ≡ zeros ⊕ E (row 0) 4 (tab 16 (λ i. i)) ⊕ E (row 0) 5 (pad10* [])
 unfolding X sum
 empty-v E Δ x y = refl
+
+-- request E2: an item without bytes is written all the same, the collector or the locale
+pub no-collector : logHeader (0x01 ∷ []) (0x6e ∷ 0x37 ∷ []) [] (0x64 ∷ 0x65 ∷ [])
+    ≡ 0x04 ∷ 0x00 ∷ 0x01 ∷ 0x01 ∷ 0x00 ∷ 0x02 ∷ 0x6e ∷ 0x37 ∷ 0x00 ∷ 0x00 ∷ 0x00 ∷ 0x02 ∷ 0x64 ∷ 0x65 ∷ []
+unfolding logHeader logItems writeHeader writeStrings digits
+no-collector = refl
+
+pub no-locale : logHeader (0x01 ∷ []) (0x6e ∷ 0x37 ∷ []) (0x64 ∷ 0x65 ∷ []) []
+    ≡ 0x04 ∷ 0x00 ∷ 0x01 ∷ 0x01 ∷ 0x00 ∷ 0x02 ∷ 0x6e ∷ 0x37 ∷ 0x00 ∷ 0x02 ∷ 0x64 ∷ 0x65 ∷ 0x00 ∷ 0x00 ∷ []
+unfolding logHeader logItems writeHeader writeStrings digits
+no-locale = refl

@@ -86,13 +86,10 @@ writeStrings (s ∷ ss) = digits 256 2 (length s) ++ s ++ writeStrings ss
 unfoldable pub writeHeader : List Bytes → Bytes
 writeHeader ss = length ss ∷ writeStrings ss
 
--- an item that is left out where it has no bytes
-abbrev pub optional : Bytes → List Bytes → List Bytes
-optional s ss = if eqb (length s) 0 then ss else s ∷ ss
-
--- the log header's strings: nonce and host always, collector and locale where they have bytes
+-- the log header's strings: all four items, one without bytes as a string of length 0. Request E2 overrides 01 here, which leaves out a
+-- collector and a locale without bytes
 unfoldable pub logItems : Bytes → Bytes → Bytes → Bytes → List Bytes
-logItems nonce host collector locale = nonce ∷ host ∷ optional collector (optional locale [])
+logItems nonce host collector locale = nonce ∷ host ∷ collector ∷ locale ∷ []
 
 unfoldable pub logHeader : Bytes → Bytes → Bytes → Bytes → Bytes
 logHeader nonce host collector locale = writeHeader (logItems nonce host collector locale)

@@ -11,26 +11,26 @@ start c = c .before .before .before .before .before
 room-requires : tie.Need-room-requires
 room-requires c κs = search needs
 
-room-requires-2 : tie.Need-room-requires-2
-room-requires-2 c κs = search needs
-
-add-always : tie.Need-add-always
-add-always c = search needs
-
 add-result : tie.Need-add-result
 add-result c = search needs
 
-optional-room-requires : tie.Need-optional-room-requires
-optional-room-requires c κs = search needs
+room-requires-2 : tie.Need-room-requires-2
+room-requires-2 c κs = search needs
 
 add-result-2 : tie.Need-add-result-2
 add-result-2 c = search needs
 
-optional-room-requires-2 : tie.Need-optional-room-requires-2
-optional-room-requires-2 c κs = search needs
+room-requires-3 : tie.Need-room-requires-3
+room-requires-3 c κs = search needs
 
 add-result-3 : tie.Need-add-result-3
 add-result-3 c = search needs
+
+room-requires-4 : tie.Need-room-requires-4
+room-requires-4 c κs = search needs
+
+add-result-4 : tie.Need-add-result-4
+add-result-4 c = search needs
 
 returns : tie.Need-returns
 returns c =
@@ -42,11 +42,11 @@ log-length-spec =
     tie.close
     (tie.spec
     room-requires
-    room-requires-2
-    add-always
     add-result
-    optional-room-requires
+    room-requires-2
     add-result-2
-    optional-room-requires-2
+    room-requires-3
     add-result-3
+    room-requires-4
+    add-result-4
     returns)
