@@ -148,9 +148,9 @@ fn the_twelve_facts() {
     assert_eq!(aes4(&[ZERO; 5], ZERO), [0x76; 16]);
     assert_eq!(aes10(&[ZERO; 11], ZERO), [0x36; 16]);
     assert_eq!(cut(48), (0, 16));
-    let mut out = [MARK; 12];
-    assert_eq!(log_header(&[1], b"n7", b"", b"de", &mut out), answer(0, 12));
-    assert_eq!(out.to_vec(), unhex("0300010100026e3700026465"));
+    let mut out = [MARK; 14];
+    assert_eq!(log_header(&[1], b"n7", b"", b"de", &mut out), answer(0, 14));
+    assert_eq!(out.to_vec(), unhex("0400010100026e37000000026465"));
 }
 
 #[test]
@@ -342,6 +342,10 @@ fn empty_header_strings_count() {
 fn headers_that_read() {
     assert_eq!(read_header(&unhex("010000")), Some(vec![vec![]]));
     assert_eq!(
+        read_header(&unhex("0400010100026e37000000026465")),
+        Some(vec![vec![1], b"n7".to_vec(), vec![], b"de".to_vec()])
+    );
+    assert_eq!(
         read_header(&unhex("0300010100026e3700026465")),
         Some(vec![vec![1], b"n7".to_vec(), b"de".to_vec()])
     );
@@ -363,8 +367,9 @@ fn headers_that_do_not_read() {
         "01000000",
         "020000",
         "02000000",
-        "0300010100026e37000264",
-        "0300010100026e370002646500",
+        "0400010100026e370000000264",
+        "0400010100026e3700000002646500",
+        "0400010100026e3700026465",
     ] {
         assert_eq!(read_header(&unhex(bytes)), None, "{bytes}");
     }
@@ -386,16 +391,28 @@ fn log_headers() {
     assert_eq!(out[..4105], header(&[&long, &long, &long, &long]));
     assert!(out[4105..].iter().all(|&byte| byte == MARK));
 
-    type Written<'a> = ([&'a [u8]; 4], &'a [&'a [u8]]);
-    let written: [Written; 4] = [
-        ([b"", b"", b"", b""], &[b"", b""]),
-        ([b"n", b"", b"c", b""], &[b"n", b"", b"c"]),
-        ([b"", b"h", b"", b"l"], &[b"", b"h", b"l"]),
-        ([b"n", b"h", b"c", b"l"], &[b"n", b"h", b"c", b"l"]),
+    // Each item with a byte and without, in every way.
+    let written: [([&[u8]; 4], &str); 16] = [
+        ([b"", b"", b"", b""], "04 0000 0000 0000 0000"),
+        ([b"", b"", b"", b"l"], "04 0000 0000 0000 00016c"),
+        ([b"", b"", b"c", b""], "04 0000 0000 000163 0000"),
+        ([b"", b"", b"c", b"l"], "04 0000 0000 000163 00016c"),
+        ([b"", b"h", b"", b""], "04 0000 000168 0000 0000"),
+        ([b"", b"h", b"", b"l"], "04 0000 000168 0000 00016c"),
+        ([b"", b"h", b"c", b""], "04 0000 000168 000163 0000"),
+        ([b"", b"h", b"c", b"l"], "04 0000 000168 000163 00016c"),
+        ([b"n", b"", b"", b""], "04 00016e 0000 0000 0000"),
+        ([b"n", b"", b"", b"l"], "04 00016e 0000 0000 00016c"),
+        ([b"n", b"", b"c", b""], "04 00016e 0000 000163 0000"),
+        ([b"n", b"", b"c", b"l"], "04 00016e 0000 000163 00016c"),
+        ([b"n", b"h", b"", b""], "04 00016e 000168 0000 0000"),
+        ([b"n", b"h", b"", b"l"], "04 00016e 000168 0000 00016c"),
+        ([b"n", b"h", b"c", b""], "04 00016e 000168 000163 0000"),
+        ([b"n", b"h", b"c", b"l"], "04 00016e 000168 000163 00016c"),
     ];
-    for (items, strings) in written {
+    for (items, expected) in written {
         let [nonce, host, collector, locale] = items;
-        let expected = header(strings);
+        let expected = unhex(&expected.replace(' ', ""));
         let mut out = vec![MARK; expected.len() + 1];
         let got = log_header(nonce, host, collector, locale, &mut out);
         assert_eq!(got, answer(0, expected.len()));

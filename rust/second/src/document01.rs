@@ -52,7 +52,10 @@ fn read_string(bytes: &[u8]) -> Option<(&[u8], &[u8])> {
     rest.split_at_checked(length)
 }
 
-/// Puts the header of a log first in `out`.
+/// Puts the header of a log first in `out`: the four items, each of them in any
+/// case. Document 01 leaves out a collector or a locale that has no bytes; request
+/// E2 overrides it here, because a host with the locale "de" and one with a
+/// collector called "de" had the same header then.
 pub fn log_header(
     nonce: &[u8],
     host: &[u8],
@@ -64,7 +67,7 @@ pub fn log_header(
     if items.iter().any(|item| item.len() > ITEM_LIMIT) {
         return refusal(8);
     }
-    let header = write_header(nonce, host, collector, locale);
+    let header = write_header(&items);
     let Some(place) = out.get_mut(..header.len()) else {
         return refusal(6);
     };
@@ -72,16 +75,11 @@ pub fn log_header(
     done(header.len())
 }
 
-/// Nonce and host in any case; collector and locale where they have bytes.
-fn write_header(nonce: &[u8], host: &[u8], collector: &[u8], locale: &[u8]) -> Vec<u8> {
-    let mut header = vec![2];
-    write_string(&mut header, nonce);
-    write_string(&mut header, host);
-    for item in [collector, locale] {
-        if !item.is_empty() {
-            header[0] += 1;
-            write_string(&mut header, item);
-        }
+/// The count, and then each item, one without bytes as a string of length 0.
+fn write_header(items: &[&[u8]; 4]) -> Vec<u8> {
+    let mut header = vec![4];
+    for item in items {
+        write_string(&mut header, item);
     }
     header
 }

@@ -85,17 +85,34 @@ fn refusals() -> Vec<Vector> {
     vectors
 }
 
-/// The log header with and without a collector, in rooms too short and longer,
-/// and with an item that is too long.
+/// The log header of items with and without bytes, in every way, and of items that
+/// are as long as they may be, in rooms too short, just long enough and longer; and
+/// with one in each place that is too long, in no room and in room enough.
 fn log_headers() -> Vec<Vector> {
-    let mut vectors = Vec::new();
-    for collector in [&b""[..], b"c1"] {
-        for room in [11, 12, 20] {
-            vectors.push(building([&[1], b"n7", collector, b"de"], room));
+    let mut sets = Vec::new();
+    for nonce in [&[1][..], b""] {
+        for host in [&b"n7"[..], b""] {
+            for (collector, locale) in [("", "de"), ("de", ""), ("", ""), ("c1", "de")] {
+                sets.push([nonce, host, collector.as_bytes(), locale.as_bytes()]);
+            }
         }
     }
-    vectors.push(building([&[0; 1_024], b"", b"", b""], 1_029));
-    vectors.push(building([&[0; 1_025], b"n7", b"", b"de"], 0));
+    let longest = [0; 1_024];
+    sets.push([&longest, b"", b"", b""]);
+    sets.push([&longest; 4]);
+
+    let mut vectors = Vec::new();
+    for items in sets {
+        let whole = header(&items).len();
+        for room in [whole - 1, whole, whole + 8] {
+            vectors.push(building(items, room));
+        }
+    }
+    for place in 0..4 {
+        let mut items = [&[1][..], b"n7", b"", b"de"];
+        items[place] = &[0; 1_025];
+        vectors.extend([0, 1_040].map(|room| building(items, room)));
+    }
     vectors
 }
 
