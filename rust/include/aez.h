@@ -71,11 +71,10 @@ uint32_t aez_open(const uint8_t *key, size_t key_len,
                   uint8_t *out, size_t out_len);
 
 /*
- * Puts the header of a log first in `out`: nonce and host, and of collector and
- * locale those that are not empty. It is
- *     1 + (2 + nonce_len) + (2 + host_len)
- *       + (2 + collector_len, if not 0) + (2 + locale_len, if not 0)
- * bytes long.
+ * Puts the header of a log first in `out`: nonce, host, collector and locale, one
+ * of length 0 as a string of length 0. It is
+ *     1 + (2 + nonce_len) + (2 + host_len) + (2 + collector_len) + (2 + locale_len)
+ * bytes long. Two headers are equal only if all four items are.
  * Answers 0, 8, 6.
  */
 uint32_t aez_log_header(const uint8_t *nonce, size_t nonce_len,

@@ -165,8 +165,9 @@ pub fn open<'a>(
 /// Builds the header of a log, and hands back the part of `out` that holds it,
 /// its first bytes. All later bytes are left unchanged.
 ///
-/// Nonce and host are always written; collector and locale are left out when
-/// they have no bytes.
+/// All four items are written, in this order, one without bytes as a string of
+/// length 0. So two headers are equal only if all four items are, and a record is
+/// bound to each of them by itself.
 ///
 /// # Errors
 ///
@@ -179,11 +180,16 @@ pub fn open<'a>(
 /// ```
 /// use jarrovento::{log_header, Refusal};
 ///
-/// let mut out = [0; 12];
+/// let mut out = [0; 14];
 /// let header = log_header(&[1], b"n7", b"", b"de", &mut out)?;
-/// assert_eq!(header, [3, 0, 1, 1, 0, 2, b'n', b'7', 0, 2, b'd', b'e']);
+/// assert_eq!(header, [4, 0, 1, 1, 0, 2, b'n', b'7', 0, 0, 0, 2, b'd', b'e']);
 ///
-/// assert_eq!(log_header(&[1], b"n7", b"", b"de", &mut out[..11]), Err(Refusal::OutputTooShort));
+/// // A collector called "de" is not a locale "de".
+/// let mut out = [0; 14];
+/// let header = log_header(&[1], b"n7", b"de", b"", &mut out)?;
+/// assert_eq!(header, [4, 0, 1, 1, 0, 2, b'n', b'7', 0, 2, b'd', b'e', 0, 0]);
+///
+/// assert_eq!(log_header(&[1], b"n7", b"", b"de", &mut out[..13]), Err(Refusal::OutputTooShort));
 /// assert_eq!(log_header(&[1], &[b'n'; 1025], b"", b"de", &mut []), Err(Refusal::ItemTooLong));
 /// # Ok::<(), Refusal>(())
 /// ```

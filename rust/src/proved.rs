@@ -139,19 +139,9 @@ pub fn log_header(
         )
     };
     done(number)?;
-    // `log-header-length` in Lengths.antt. No sum overflows: by test 8 no item is
-    // above 1,024 bytes.
-    let always = 1 + (2 + nonce.len()) + (2 + host.len());
-    Ok(always + unless_empty(collector) + unless_empty(locale))
-}
-
-/// The bytes that an item takes which is left out where it is empty.
-fn unless_empty(item: &[u8]) -> usize {
-    if item.is_empty() {
-        0
-    } else {
-        2 + item.len()
-    }
+    // `log-header-length` in Lengths.antt: the count, and each item after its length
+    // in two bytes. No sum overflows: by test 8 no item is above 1,024 bytes.
+    Ok(1 + (2 + nonce.len()) + (2 + host.len()) + (2 + collector.len()) + (2 + locale.len()))
 }
 
 /// The answer number as a type.

@@ -21,7 +21,7 @@ int main(void)
     static const uint8_t text[] = {'h', 'e', 'l', 'l', 'o'};
     static const uint8_t nonce[] = {1}, host[] = {'n', '7'}, locale[] = {'d', 'e'};
     static const uint8_t none[1] = {0};
-    uint8_t key[48], sealed[21], opened[21], built[12];
+    uint8_t key[48], sealed[21], opened[21], built[14];
     uint32_t answer;
     size_t i;
 
@@ -34,15 +34,17 @@ int main(void)
     print("seal", answer, sealed, 21);
     answer = aez_open(key, 48, header, sizeof header, 16, sealed, 21, opened, 21);
     print("open", answer, opened, 21);
-    answer = aez_log_header(nonce, 1, host, 2, none, 0, locale, 2, built, 12);
-    print("log_header", answer, built, 12);
+    answer = aez_log_header(nonce, 1, host, 2, none, 0, locale, 2, built, 14);
+    print("log_header", answer, built, 14);
+    answer = aez_log_header(nonce, 1, host, 2, locale, 2, none, 0, built, 14);
+    print("log_header", answer, built, 14);
 
     sealed[0] ^= 1;
     answer = aez_open(key, 48, header, sizeof header, 16, sealed, 21, opened, 21);
     print("open", answer == AEZ_CHECK_FAILS ? answer : 99, opened, 21);
     answer = aez_seal(key, 48, header, sizeof header, ((uint64_t)1 << 32) + 4, text, 5, opened, 21);
     print("seal", answer == AEZ_STRETCH_TOO_LONG ? answer : 99, opened, 0);
-    answer = aez_log_header(nonce, 1, host, 2, none, 0, locale, 2, built, 11);
+    answer = aez_log_header(nonce, 1, host, 2, none, 0, locale, 2, built, 13);
     print("log_header", answer == AEZ_OUTPUT_TOO_SHORT ? answer : 99, built, 0);
     return 0;
 }

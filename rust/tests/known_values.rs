@@ -50,11 +50,51 @@ fn a_key_s_bytes_are_not_shown() {
     assert_eq!(format!("{key:?} {key:#?}"), "Key(..) Key(..)");
 }
 
+/// Document 01's example, as request E2 has it.
 #[test]
-fn document_01_s_log_header() {
+fn the_log_header_of_the_example() {
     let mut out = [0; 20];
     let header = log_header(&[1], b"n7", b"", b"de", &mut out).unwrap();
-    assert_eq!(hex(header), "0300010100026e3700026465");
+    assert_eq!(hex(header), "0400010100026e37000000026465");
+}
+
+/// A collector or a locale without bytes, both, and nothing at all: each is there as
+/// a string of length 0.
+#[test]
+fn log_headers_of_items_without_bytes() {
+    type Items<'a> = [&'a [u8]; 4];
+    let built: [(Items, &str); 4] = [
+        ([&[1], b"n7", b"de", b""], "0400010100026e37000264650000"),
+        ([&[1], b"n7", b"", b""], "0400010100026e3700000000"),
+        ([b"", b"", b"", b""], "040000000000000000"),
+        (
+            [&[1], b"n7", b"c1", b"de"],
+            "0400010100026e370002633100026465",
+        ),
+    ];
+    for ([nonce, host, collector, locale], expected) in built {
+        let mut out = [0; 20];
+        let header = log_header(nonce, host, collector, locale, &mut out).unwrap();
+        assert_eq!(hex(header), expected);
+    }
+}
+
+/// What was sealed before request E2, under a header that left the collector out,
+/// opens under that header's bytes as ever, and not under the header built now.
+#[test]
+fn a_record_from_before_request_e2() {
+    let key = counting(48);
+    let old = unhex("0300010100026e3700026465");
+    let sealed = unhex("97196e5c8b216309bf3e62");
+    let mut out = [0; 20];
+    let opened = open(&key, &old, 4, &sealed, &mut out).unwrap();
+    assert_eq!(opened, b"1,204 s");
+    for (collector, locale) in [(&b""[..], &b"de"[..]), (b"de", b"")] {
+        let mut room = [0; 20];
+        let new = log_header(&[1], b"n7", collector, locale, &mut room).unwrap();
+        let opened = open(&key, new, 4, &sealed, &mut out);
+        assert_eq!(opened, Err(Refusal::CheckFails));
+    }
 }
 
 /// A text that is empty is told from a refusal.
@@ -111,7 +151,7 @@ fn refusals_have_their_numbers_and_leave_the_output() {
         ),
         (
             6,
-            log_header(&key[..11], b"n7", b"", b"de", &mut out).unwrap_err(),
+            log_header(&key[..8], b"n7", b"", b"de", &mut out).unwrap_err(),
         ),
         (
             8,
