@@ -1,5 +1,6 @@
-//! The customer's story, told on the sample: what the header is for, and what
-//! the stretch is for. A step that comes out otherwise than told is a failure.
+//! The customer's story, told on the sample: what the header is for, why all of its
+//! items are written, and what the stretch is for. A step that comes out otherwise
+//! than told is a failure.
 
 use jarrovento::{log_header, Key, Refusal, LONGEST_LOG_HEADER};
 
@@ -11,19 +12,23 @@ const KEY_FILE: &[u8] = include_bytes!("../sample/not-secret.key");
 const RECORD: &str = include_str!("../sample/record.txt");
 const NONCE: &[u8] = &[1];
 
-/// The headers of the two hosts.
+/// The headers of the two hosts, and of the first with a collector of the name that
+/// its locale has, and no locale.
 struct Headers {
     n7: Vec<u8>,
     n8: Vec<u8>,
+    n7_by_collector: Vec<u8>,
 }
 
 pub fn story() -> Result<String, Failure> {
     let key = input::key(KEY_FILE)?;
     let headers = Headers {
-        n7: header_of("n7", "de")?,
-        n8: header_of("n8", "en")?,
+        n7: header_of("n7", "", "de")?,
+        n8: header_of("n8", "", "en")?,
+        n7_by_collector: header_of("n7", "de", "")?,
     };
     let stretch_of_4 = with_a_stretch(&key, &headers)?;
+    let collector = with_a_collector(&key, &headers)?;
     let stretch_of_0 = without_a_stretch(&key, &headers)?;
     Ok(format!(
         "\
@@ -32,6 +37,7 @@ the decimal mark: a little over a second. Where the locale is en the same text
 reads as twenty minutes. So the record is sealed with host and locale as header.
 
 {stretch_of_4}
+{collector}
 {stretch_of_0}
 What a stretch of 0 can promise: the sealed string is no longer than the text,
 and it opens to the text under its own header; that is proved. If AEZ is as strong
@@ -43,7 +49,7 @@ string opens to something, and only the reader can tell that it makes no sense.
     ))
 }
 
-fn with_a_stretch(key: &Key, Headers { n7, n8 }: &Headers) -> Result<String, Failure> {
+fn with_a_stretch(key: &Key, Headers { n7, n8, .. }: &Headers) -> Result<String, Failure> {
     let sealed = seal_record(key, n7, 4)?;
     let at_home = open_record(key, n7, 4, &sealed)?;
     expect(at_home == RECORD.as_bytes(), "the record opens on its host")?;
@@ -78,7 +84,38 @@ Opened under the header of another host, n8 with locale en
     ))
 }
 
-fn without_a_stretch(key: &Key, Headers { n7, n8 }: &Headers) -> Result<String, Failure> {
+/// What request E2 ended.
+fn with_a_collector(key: &Key, headers: &Headers) -> Result<String, Failure> {
+    let before = header_before_e2("n7", "", "de");
+    expect(
+        before == header_before_e2("n7", "de", ""),
+        "under the old rule a locale de and a collector de had one header",
+    )?;
+    let sealed = seal_record(key, &headers.n7, 4)?;
+    let refusal = Refusal::CheckFails;
+    expect(
+        open_record(key, &headers.n7_by_collector, 4, &sealed) == Err(refusal),
+        "the record is refused where de is the collector",
+    )?;
+    Ok(format!(
+        "\
+Opened under the header of n7 with a collector called de, and no locale
+  locale de     {}
+  collector de  {}
+  answer        {refusal}
+  old, for both {}
+  A collector or a locale without bytes used to be left out, so that these two had
+  one header, and a record of one opened under the other. Now nonce, host, collector
+  and locale are always written, one without bytes as a string of length 0, and the
+  record is bound to each of them by itself.
+",
+        hex::encode(&headers.n7),
+        hex::encode(&headers.n7_by_collector),
+        hex::encode(&before),
+    ))
+}
+
+fn without_a_stretch(key: &Key, Headers { n7, n8, .. }: &Headers) -> Result<String, Failure> {
     let sealed = seal_record(key, n7, 0)?;
     expect(sealed.len() == RECORD.len(), "a stretch of 0 adds nothing")?;
     let at_home = open_record(key, n7, 0, &sealed)?;
@@ -112,10 +149,25 @@ fn expect(holds: bool, step: &'static str) -> Result<(), Failure> {
     }
 }
 
-fn header_of(host: &str, locale: &str) -> Result<Vec<u8>, Refusal> {
+fn header_of(host: &str, collector: &str, locale: &str) -> Result<Vec<u8>, Refusal> {
+    let [host, collector, locale] = [host, collector, locale].map(str::as_bytes);
     let mut out = [0; LONGEST_LOG_HEADER];
-    let header = log_header(NONCE, host.as_bytes(), b"", locale.as_bytes(), &mut out)?;
+    let header = log_header(NONCE, host, collector, locale, &mut out)?;
     Ok(header.to_vec())
+}
+
+/// The header by the rule of before: a collector or a locale without bytes is left
+/// out. For short items only.
+fn header_before_e2(host: &str, collector: &str, locale: &str) -> Vec<u8> {
+    let mut items = vec![NONCE, host.as_bytes()];
+    let optional = [collector, locale].map(str::as_bytes);
+    items.extend(optional.into_iter().filter(|item| !item.is_empty()));
+    let mut header = vec![items.len() as u8];
+    for item in items {
+        header.extend([0, item.len() as u8]);
+        header.extend(item);
+    }
+    header
 }
 
 fn seal_record(key: &Key, header: &[u8], stretch: u64) -> Result<Vec<u8>, Refusal> {

@@ -72,18 +72,34 @@ fn the_demo_tells_what_the_second_program_gives() {
     done(&demo);
     let story = String::from_utf8(demo.stdout).unwrap();
     let key = counting(48);
-    let n7 = header(&[&[1][..], b"n7", b"de"]);
-    let n8 = header(&[&[1][..], b"n8", b"en"]);
+    let n7 = header(&[&[1][..], b"n7", b"", b"de"]);
+    let n8 = header(&[&[1][..], b"n8", b"", b"en"]);
+    let by_collector = header(&[&[1][..], b"n7", b"de", b""]);
+    let before_e2 = header(&[&[1][..], b"n7", b"de"]);
     let (mut sealed, mut bare, mut other) = ([0; 11], [0; 7], [0; 7]);
     document01::seal(&key, &n7, 4, b"1,204 s", &mut sealed);
     document01::seal(&key, &n7, 0, b"1,204 s", &mut bare);
     document01::open(&key, &n8, 0, &bare, &mut other);
+    for wrong in [&n8, &by_collector] {
+        let answer = document01::open(&key, wrong, 4, &sealed, &mut [0; 11]);
+        assert_eq!(answer.number, 7);
+    }
     for line in [
         format!("  header        {}\n", hex(&n7)),
         format!("  sealed        {}\n", hex(&sealed)),
         "  text          1,204 s\n".to_string(),
-        format!("  header        {}\n", hex(&n8)),
-        format!("  answer        {}\n", Refusal::CheckFails),
+        format!(
+            "  header        {}\n  answer        {}\n",
+            hex(&n8),
+            Refusal::CheckFails
+        ),
+        format!(
+            "  locale de     {}\n  collector de  {}\n  answer        {}\n  old, for both {}\n",
+            hex(&n7),
+            hex(&by_collector),
+            Refusal::CheckFails,
+            hex(&before_e2)
+        ),
         format!("  sealed on n7  {}\n", hex(&bare)),
         "  opened on n7  1,204 s\n".to_string(),
         format!("  under n8      {},", hex(&other)),

@@ -13,7 +13,7 @@ use support::unhex;
 use crate::{done, fails, file, folder, jarrovento, program, run};
 
 /// A log header, as hex; `header` needs no file but its output.
-const BUILT: &str = "0200010100026e37";
+const BUILT: &str = "0400010100026e3700000000";
 
 /// The words that write that header to `out`.
 fn header(out: &str) -> [&str; 7] {
