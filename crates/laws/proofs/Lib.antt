@@ -35,3 +35,5 @@ pub mod Ciphers
 -- sealing and opening
 pub mod Sealing
 pub mod Demand3
+pub mod Counting
+pub mod Accepted
