@@ -99,7 +99,7 @@ module _ (key header : Bytes) (strings : List Bytes) (t : ℕ) (fixed : Fixed ke
         to = sym (append-nil X) ∙ ap (λ (l : Bytes). X ++ l) (sym end) ∙ same ∙ ap (λ (l : Bytes). C ++ l) last ∙ append-nil C;
       }
 
-  seals-called : (M C : Bytes) → Within C → laws.Seals key header strings t fixed M C → Seals M C
+  pub seals-called : (M C : Bytes) → Within C → laws.Seals key header strings t fixed M C → Seals M C
   seals-called M C w s =
       let long : length M + t ≡ length C = sym (laws.sealed-length key header strings t fixed M (s .text)) ∙ ap length (s .to) in
       record {

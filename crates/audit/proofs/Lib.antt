@@ -2,6 +2,7 @@
 pub mod Demands
 pub mod Numbers
 pub mod Lengths
+pub mod AcceptedStrings
 pub mod LogHeaders
 pub mod Determined
 pub mod Composes
