@@ -12,7 +12,7 @@ use lib.ListN.{length, take, drop}
 use lib.Seq.{take-append-seam}
 use Rattle.paper.specs.Strings.{Bytes, Below}
 use Rattle.paper.specs.Document01.{Outcome, done, readHeader, logHeader, buildingLogHeader}
-use Rattle.laws.proofs.Headers.{Fits, log-header-reads}
+use Rattle.laws.proofs.Headers.{Fits, log-header-reads, same-items}
 use Rattle.answer.specs.Outcomes.{outcome}
 use Rattle.answer.specs.declared.Answer.{Answer}
 use Rattle.header.specs.Building.{settledAs}
@@ -89,7 +89,6 @@ pub equal-headers : (nonce host collector locale out : Bytes) (r : Answer) (last
     → written r last ≡ written r′ last′
     → (nonce ≡ nonce′) × (host ≡ host′) × (collector ≡ collector′) × (locale ≡ locale′)
 equal-headers a b c d o r l p z i a′ b′ c′ d′ o′ r′ l′ p′ z′ i′ e =
-    let one = written-reads a b c d o r l p z i in
-    let other = written-reads a′ b′ c′ d′ o′ r′ l′ p′ z′ i′ in
-    let same : readHeader (written r l) ≡ readHeader (written r′ l′) = ap readHeader e in
-    ((cc), (cc), (cc), (cc))
+    same-items a b c d a′ b′ c′ d′ (nonce-fits a b c d o r l p z i) (host-fits a b c d o r l p z i) (collector-fits a b c d o r l p z i) (locale-fits a b c d o r l p z i)
+    (nonce-fits a′ b′ c′ d′ o′ r′ l′ p′ z′ i′) (host-fits a′ b′ c′ d′ o′ r′ l′ p′ z′ i′) (collector-fits a′ b′ c′ d′ o′ r′ l′ p′ z′ i′) (locale-fits a′ b′ c′ d′ o′ r′ l′ p′ z′ i′)
+    (sym (wrote a b c d o r l p z .header-first) ∙ e ∙ wrote a′ b′ c′ d′ o′ r′ l′ p′ z′ .header-first)
