@@ -21,6 +21,7 @@ pub mod AesBlocks
 pub mod KeyBlocks
 -- headers, the hash and the prf
 pub mod Headers
+pub mod BadEntries
 pub mod HashBlocks
 pub mod Hash
 -- AEZ-tiny and AEZ-core, both ways
