@@ -1,7 +1,7 @@
 -- What is written of the log header's items, part by part.
 use mathlib.Core.Bool.{Bool, true, false, _||_, true≢false}
-use mathlib.Core.List.{List, [], _∷_, _++_, append-assoc, append-nil}
-use mathlib.Core.Path.{_≡_, refl, ap, sym, _∙_}
+use mathlib.Core.List.{[], _∷_, _++_, append-nil}
+use mathlib.Core.Path.{_≡_, refl, ap, _∙_}
 use Prim.Native.Nat.{_+_, _/_, _%_, _≤_, _<_}
 use native.Mathlib.Omega.{arith}
 use borrow.Author.Tests.{ltb-false, lt-ltb, le-ltb}
@@ -9,16 +9,10 @@ use lib.Dec.{ltb}
 use lib.ListN.{length, length-append}
 use Rattle.paper.specs.Strings.{Bytes, digits}
 use Rattle.paper.specs.Document01.{writeStrings, writeHeader, logItems, logHeader, refused, done, buildingLogHeader}
+use Rattle.laws.proofs.Headers.{write-append}
 use Rattle.header.specs.Building.{tooLong}
 
 -- ---- Strings
-
-write-append : (ss ts : List Bytes) → writeStrings (ss ++ ts) ≡ writeStrings ss ++ writeStrings ts
-unfolding writeStrings
-write-append [] ts = refl
-write-append (s ∷ ss) ts =
-    ap (λ (r : Bytes). digits 256 2 (length s) ++ s ++ r) (write-append ss ts)
-    ∙ sym (append-assoc (digits 256 2 (length s) ++ s) (writeStrings ss) (writeStrings ts))
 
 -- one string: its length in two bytes, and itself
 pub write-one : (s : Bytes) → writeStrings (s ∷ []) ≡ (length s / 256 % 256 ∷ length s % 256 ∷ []) ++ s

@@ -1,12 +1,11 @@
 -- Where the strings of a header stand. An entry is a string after its two length bytes, high byte first.
 use mathlib.Core.Bool.{_&&_}
-use mathlib.Core.List.{List, [], _∷_}
-use mathlib.Core.Option.{Option, none, some}
+use mathlib.Core.List.{[], _∷_}
 use Prim.Native.Nat.{ℕ, _+_, _-_, _*_, _≤_}
 use lib.Dec.{ltb, leb}
 use lib.ListN.{length, getD}
 use Rattle.paper.specs.Strings.{Bytes, if_then_else_}
-use Rattle.paper.specs.Document01.{mostStrings, longestString}
+use Rattle.paper.specs.Document01.{mostStrings, longestString, Read, asStrings, badEntry}
 use Rattle.header.specs.declared.Place.{Place}
 use Rattle.header.specs.declared.Place.the-variants.{At, Bad}
 use Rattle.header.specs.declared.Reading.{Reading}
@@ -31,15 +30,15 @@ Within (At start end) h = (start ≤ end) × (end ≤ length h) × (end - start 
 
 -- the count, which is the first byte: bad where there is none, or where it is not from 1 to 16
 unfoldable pub countOf : Bytes → Reading
-countOf [] = answers.Bad
-countOf (n ∷ h) = if leb 1 n && leb n mostStrings then answers.Strings n else answers.Bad
+countOf [] = answers.Bad 0
+countOf (n ∷ h) = if leb 1 n && leb n mostStrings then answers.Strings n else answers.Bad 0
 
 -- a count is at most 16, and stands in h
 abbrev pub Few : Reading → Bytes → Type 0
-Few answers.Bad h = Unit {0}
+Few (answers.Bad k) h = Unit {0}
 Few (answers.Strings n) h = (n ≤ mostStrings) × (1 ≤ length h)
 
--- what a reader answers: how many strings there are, where the header reads
-abbrev pub readOf : Option (List Bytes) → Reading
-readOf none = answers.Bad
-readOf (some ss) = answers.Strings (length ss)
+-- what a reader answers: how many strings there are, or which entry is bad
+abbrev pub readAs : Read → Reading
+readAs (badEntry k) = answers.Bad k
+readAs (asStrings ss) = answers.Strings (length ss)

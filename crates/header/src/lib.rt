@@ -5,8 +5,8 @@ ghost use mathlib.Core.List.{[], _∷_};
 ghost use mathlib.Core.Path.{_≡_};
 ghost use Prim.Native.Nat.{_+_, _<_, _≤_};
 ghost use lib.ListN.{length};
-ghost use Rattle.paper.specs.Document01.{readHeader, writeStrings, logHeader, buildingLogHeader};
-ghost use Rattle.header.specs.Places.{entryAt, Within, countOf, Few, readOf};
+ghost use Rattle.paper.specs.Document01.{reading, writeStrings, logHeader, buildingLogHeader};
+ghost use Rattle.header.specs.Places.{entryAt, Within, countOf, Few, readAs};
 ghost use Rattle.answer.specs.Outcomes.{outcome};
 ghost use Rattle.header.specs.Building.{tooLong, settledAs, placed};
 
@@ -16,10 +16,10 @@ pub enum Place {
     Bad,
 }
 
-// How many strings a header has, or that it does not read.
+// How many strings a header has, or the number of its first bad entry (request E5): 0 is the count, 17 what is left over.
 pub enum Reading {
     Strings(usize),
-    Bad,
+    Bad(usize),
 }
 
 // A byte as a number that sums can be made of.
@@ -60,36 +60,37 @@ pub fn count(h: &[u8]) -> Reading
     ensures few { λ r. ⌜ Few r (now (h .entry)) ⌝ }
 {
     if h.len() < 1 {
-        return Reading::Bad;
+        return Reading::Bad(0);
     }
     let n = as_number(h[0]);
     if n < 1 {
-        return Reading::Bad;
+        return Reading::Bad(0);
     }
     if 16 < n {
-        return Reading::Bad;
+        return Reading::Bad(0);
     }
     Reading::Strings(n)
 }
 
-// Whether a header reads: a count from 1 to 16, then that many strings, and no byte after the last.
+// Whether a header reads: a count from 1 to 16, then that many strings, and no byte after the last. The first entry that is bad is told.
 pub fn read(h: &[u8]) -> Reading
-    ensures { λ r. ⌜ r ≡ readOf (readHeader (now (h .entry))) ⌝ }
+    ensures { λ r. ⌜ r ≡ readAs (reading (now (h .entry))) ⌝ }
 {
     let Reading::Strings(n) = count(h) else {
-        return Reading::Bad;
+        return Reading::Bad(0);
     };
     let mut at: usize = 1;
     let mut left = n;
     while 0 < left {
         let Place::At(_, end) = entry(h, at) else {
-            return Reading::Bad;
+            let k = n - left + 1;
+            return Reading::Bad(k);
         };
         at = end;
         left -= 1;
     }
     if at != h.len() {
-        return Reading::Bad;
+        return Reading::Bad(17);
     }
     Reading::Strings(n)
 }

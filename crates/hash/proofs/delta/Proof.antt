@@ -92,7 +92,7 @@ returns : tie.Need-returns Inv-loop μ-loop
 returns c =
     let r = c .before .before in
     let a = start r .args in
-    not-counted (E (blocks (a .k))) (a .h .now) (a .stretch .0) (rw (c .enum-told .given .1) at (r .count .ensures .0))
+    not-counted (E (blocks (a .k))) (a .h .now) (a .stretch .0) _ (rw (c .enum-told .given .1) at (r .count .ensures .0))
 
 number-requires : tie.Need-number-requires Inv-loop μ-loop
 number-requires c κs = search needs
@@ -161,7 +161,7 @@ loop-again c =
       omega (arith, l .inv .1),
       omega arith,
       l .inv .3,
-      l .inv .4 ∙ turn (F s) (h s) (l .total) (l .at) (l .i) (l .left) (from p) (to p) (c .xor .result) (omega arith) (is-entry p) added,
+      l .inv .4 ∙ turn (F s) (h s) (l .total) (l .at) (l .i) (l .left) (from p) (to p) (c .xor .result) (omega (arith, l .inv .1, l .inv .2)) (omega arith) (is-entry p) added,
       search needs,
     )
 

@@ -12,17 +12,17 @@ use Rattle.header.specs.Places.{countOf}
 use Rattle.header.proofs.count.Statement.{statement}
 use Rattle.header.proofs.count.Tie as tie
 
-no-byte : (h : Bytes) → length h < 1 → Bad ≡ countOf h
+no-byte : (h : Bytes) → length h < 1 → Bad 0 ≡ countOf h
 unfolding countOf
 no-byte [] p = refl
 no-byte (x ∷ h) p = absurd (omega arith)
 
-zero-strings : (h : Bytes) (n : ℕ) → n ≡ getD h 0 0 → 1 ≤ length h → n < 1 → Bad ≡ countOf h
+zero-strings : (h : Bytes) (n : ℕ) → n ≡ getD h 0 0 → 1 ≤ length h → n < 1 → Bad 0 ≡ countOf h
 unfolding countOf
 zero-strings [] n e p q = absurd (omega arith)
 zero-strings (x ∷ h) n e p q = simp (lt-leb 1 x (omega arith))
 
-too-many : (h : Bytes) (n : ℕ) → n ≡ getD h 0 0 → 1 ≤ length h → 16 < n → Bad ≡ countOf h
+too-many : (h : Bytes) (n : ℕ) → n ≡ getD h 0 0 → 1 ≤ length h → 16 < n → Bad 0 ≡ countOf h
 unfolding countOf
 too-many [] n e p q = absurd (omega arith)
 too-many (x ∷ h) n e p q = simp (le-leb 1 x (omega arith), lt-leb x 16 (omega arith))

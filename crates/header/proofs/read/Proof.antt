@@ -1,72 +1,73 @@
 -- `header::read` meets its contract. The invariant: what the definition reads of the header is the strings of the entries passed, and what
 -- it reads of the rest.
-use mathlib.Core.List.{List}
-use mathlib.Core.Option.{Option, none, some}
 use mathlib.Core.Path.{_≡_, refl, ap, sym, _∙_}
-use Prim.Native.Nat.{ℕ, _+_, _-_, _≤_, _<_}
+use Prim.Native.Nat.{ℕ, suc, _+_, _-_, _≤_, _<_}
 use native.Mathlib.Omega.{arith}
 use borrow.Author.Needs.{needs}
 use lib.ListN.{length, take, drop}
 use Rattle.paper.specs.Strings.{Bytes}
-use Rattle.paper.specs.Document01.{inFront, readStrings, readHeader}
+use Rattle.paper.specs.Document01.{Read, asStrings, badEntry, inFront, readStrings, reading}
 use Rattle.header.specs.declared.Place.the-variants.{At}
 use Rattle.header.specs.declared.Place.the-variants as places
 use Rattle.header.specs.declared.Reading.{Reading}
 use Rattle.header.specs.declared.Reading.the-variants.{Strings, Bad}
-use Rattle.header.specs.Places.{entryAt, Within, countOf, Few, readOf}
-use Rattle.header.proofs.Walk.{count-reads, entry-reads, end-reads, end-bad}
+use Rattle.header.specs.Places.{entryAt, Within, countOf, Few, readAs}
+use Rattle.header.proofs.Walk.{count-reads, count-bad, entry-reads, end-reads, end-bad}
 use Rattle.header.proofs.read.Statement.{statement}
 use Rattle.header.proofs.read.Tie as tie
 
 -- ---- The walk
 
--- the answer after k strings, where the rest reads as o
-abbrev after : ℕ → Option (List Bytes) → Reading
-after k none = Bad
-after k (some ss) = Strings (k + length ss)
+-- the answer after k strings, where the rest reads as r
+abbrev after : ℕ → Read → Reading
+after k (badEntry j) = Bad j
+after k (asStrings ss) = Strings (k + length ss)
 
-after-none : (o : Option (List Bytes)) → readOf o ≡ after 0 o
-after-none none = refl
-after-none (some ss) = ap Strings (omega arith)
+after-none : (r : Read) → readAs r ≡ after 0 r
+after-none (badEntry j) = refl
+after-none (asStrings ss) = ap Strings (omega arith)
 
-after-one : (k m : ℕ) (s : Bytes) (o : Option (List Bytes)) → m ≡ k + 1 → after k (inFront s o) ≡ after m o
-after-one k m s none e = refl
-after-one k m s (some ss) e = ap Strings (omega arith)
+after-one : (k m : ℕ) (s : Bytes) (r : Read) → m ≡ k + 1 → after k (inFront s r) ≡ after m r
+after-one k m s (badEntry j) e = refl
+after-one k m s (asStrings ss) e = ap Strings (omega arith)
 
--- what is left to read of n strings
+-- what is left to read of n strings, from the next one on
 abbrev rest : Bytes → ℕ → ℕ → ℕ → Reading
-rest h n at left = after (n - left) (readStrings left (drop at h))
+rest h n at left = after (n - left) (readStrings (n - left + 1) left (drop at h))
 
 -- before the first entry
-begun : (h : Bytes) (n : ℕ) → Strings n ≡ countOf h → readOf (readHeader h) ≡ rest h n 1 n
+begun : (h : Bytes) (n : ℕ) → Strings n ≡ countOf h → readAs (reading h) ≡ rest h n 1 n
 begun h n e =
     let none-passed : 0 ≡ n - n = omega arith in
-    after-none (readHeader h) ∙ (λ i. after (none-passed i) (count-reads h (Strings n) e i))
+    let first : 1 ≡ n - n + 1 = omega arith in
+    after-none (reading h) ∙ ap (after 0) (count-reads h (Strings n) e) ∙ (λ i. after (none-passed i) (readStrings (first i) n (drop 1 h)))
 
 module _ (h : Bytes) (n at left : ℕ) (some-left : 0 < left) (few : left ≤ n) where
   -- an entry that reads
   turn : (s e : ℕ) → At s e ≡ entryAt h at → rest h n at left ≡ rest h n e (left - 1)
   turn s e p =
-      ap (after (n - left)) (entry-reads left at h (At s e) some-left p)
-      ∙ after-one (n - left) (n - (left - 1)) (take (e - s) (drop s h)) (readStrings (left - 1) (drop e h)) (omega arith)
+      let next : suc (n - left + 1) ≡ n - (left - 1) + 1 = omega arith in
+      ap (after (n - left)) (entry-reads (n - left + 1) left at h (At s e) some-left p)
+      ∙ after-one (n - left) (n - (left - 1)) (take (e - s) (drop s h)) (readStrings (suc (n - left + 1)) (left - 1) (drop e h)) (omega arith)
+      ∙ ap (λ (k : ℕ). after (n - (left - 1)) (readStrings k (left - 1) (drop e h))) next
 
   -- an entry that does not
-  stop : places.Bad ≡ entryAt h at → rest h n at left ≡ Bad
-  stop p = ap (after (n - left)) (entry-reads left at h places.Bad some-left p)
+  stop : places.Bad ≡ entryAt h at → rest h n at left ≡ Bad (n - left + 1)
+  stop p = ap (after (n - left)) (entry-reads (n - left + 1) left at h places.Bad some-left p)
 
 module _ (h : Bytes) (n at left : ℕ) (none-left : left ≤ 0) where
   -- nothing after the last entry
   good : at ≡ length h → rest h n at left ≡ Strings n
-  good p = ap (after (n - left)) (end-reads left at h none-left p) ∙ ap Strings (omega arith)
+  good p = ap (after (n - left)) (end-reads (n - left + 1) left at h none-left p) ∙ ap Strings (omega arith)
 
   -- something after it
-  over : at < length h → rest h n at left ≡ Bad
-  over p = ap (after (n - left)) (end-bad left at h none-left p)
+  over : at < length h → rest h n at left ≡ Bad 17
+  over p = ap (after (n - left)) (end-bad (n - left + 1) left at h none-left p)
 
 -- ---- The places
 
 abbrev Inv-loop : tie.InvT-loop
-Inv-loop h n at₀ left₀ at left = (at ≤ length h) × (left ≤ n) × (readOf (readHeader h) ≡ rest h n at left)
+Inv-loop h n at₀ left₀ at left = (at ≤ length h) × (left ≤ n) × (readAs (reading h) ≡ rest h n at left)
 
 abbrev μ-loop : tie.MeasureT-loop
 μ-loop h n at₀ left₀ at left = left
@@ -102,7 +103,7 @@ enum-told c = search needs
 returns : tie.Need-returns Inv-loop μ-loop
 returns c =
     let r = c .before .before in
-    ap readOf (sym (count-reads (start r .args .h .now) Bad (rw (c .enum-told .given .1) at (r .count .ensures .0))))
+    ap readAs (sym (count-bad (start r .args .h .now) _ (rw (c .enum-told .given .1) at (r .count .ensures .0))))
 
 loop-holds : tie.Need-loop-holds Inv-loop μ-loop
 loop-holds c =
@@ -117,6 +118,12 @@ enum-known-end c = search needs
 
 enum-told-2 : tie.Need-enum-told-2 Inv-loop μ-loop
 enum-told-2 c = search needs
+
+sub-k : tie.Need-sub-k Inv-loop μ-loop
+sub-k c = search needs
+
+add-k : tie.Need-add-k Inv-loop μ-loop
+add-k c = search needs
 
 returns-2 : tie.Need-returns-2 Inv-loop μ-loop
 returns-2 c =
@@ -170,6 +177,8 @@ read-spec =
     entry-requires
     enum-known-end
     enum-told-2
+    sub-k
+    add-k
     returns-2
     sub-left
     loop-less
