@@ -8,6 +8,13 @@ pub struct Answer {
     pub length: usize,
 }
 
+// An answer of a call that reads a header: beside 3 the number of the header's bad entry (request E5), and beside every other 0.
+pub struct AnswerAt {
+    pub number: u32,
+    pub length: usize,
+    pub place: usize,
+}
+
 // The stretch in bytes, as callers have it.
 pub struct StretchBytes(pub u64);
 

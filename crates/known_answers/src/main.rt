@@ -5,6 +5,7 @@
 // stretch in 16 digits, the bytes of output that are lent and the bytes of four strings in 8 digits each. The strings follow in hex, a line
 // each: key, header, text or sealed string, and an empty one; or nonce, host, collector and locale.
 use answer::Answer;
+use answer::AnswerAt;
 use answer::StretchBytes;
 ghost use Prim.Native.Nat.{_<_, _≤_};
 ghost use lib.ListN.{length};
@@ -160,16 +161,24 @@ fn part(s: &[u8], at: usize, n: usize) -> &[u8] {
     &s[at..at + n]
 }
 
+// What a vector has of an answer: the number and the length.
+fn without_place(r: AnswerAt) -> Answer {
+    Answer {
+        number: r.number,
+        length: r.length,
+    }
+}
+
 // Makes the call that a vector's first letter names.
 fn call(v: First, s: &[u8], out: &mut [u8]) -> Answer {
     let a = part(s, 0, v.a);
     let b = part(s, 65600, v.b);
     let c = part(s, 131200, v.c);
     if v.which == b's' {
-        return record::seal(a, b, StretchBytes(v.stretch), c, out);
+        return without_place(record::seal(a, b, StretchBytes(v.stretch), c, out));
     }
     if v.which == b'o' {
-        return record::open(a, b, StretchBytes(v.stretch), c, out);
+        return without_place(record::open(a, b, StretchBytes(v.stretch), c, out));
     }
     header::log_header(a, b, c, part(s, 196800, v.d), out)
 }

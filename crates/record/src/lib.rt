@@ -1,27 +1,33 @@
 // Sealing and opening, the latter in both its forms: document 01, "Answer numbers". No call asks anything of its caller.
-use answer::Answer;
+use answer::AnswerAt;
 use answer::StretchBytes;
 use header::Reading;
 ghost use denote.Ref.{ptr};
 ghost use mathlib.Core.Path.{_≡_};
 ghost use Rattle.paper.specs.Document01.{sealing, opening, openedPart};
-ghost use Rattle.answer.specs.Outcomes.{outcome};
+ghost use Rattle.answer.specs.Outcomes.{outcomeAt};
 ghost use Rattle.record.specs.Settled.{settledCommon, settledSealing, settledOpening};
 
-// Tests 1, 2 and 3, which sealing and opening share: the number of the first that holds, or 0.
-fn settled(key: &[u8], header: &[u8], stretch: StretchBytes) -> u32
+// The first test that holds: its number, and beside 3 the header's bad entry that it is at. Number 0 where none holds.
+pub struct Refusal {
+    pub number: u32,
+    pub at: usize,
+}
+
+// Tests 1, 2 and 3, which sealing and opening share.
+fn settled(key: &[u8], header: &[u8], stretch: StretchBytes) -> Refusal
     ensures { λ r. ⌜ r ≡ settledCommon (now (key .entry)) (now (header .entry)) (stretch .0) ⌝ }
 {
     if key.len() != 48 {
-        return 1;
+        return Refusal { number: 1, at: 0 };
     }
     if 64 < stretch.0 {
-        return 2;
+        return Refusal { number: 2, at: 0 };
     }
-    let Reading::Strings(_) = header::read(header) else {
-        return 3;
-    };
-    0
+    match header::read(header) {
+        Reading::Bad(at) => Refusal { number: 3, at },
+        Reading::Strings(_) => Refusal { number: 0, at: 0 },
+    }
 }
 
 // Tests 1 to 4 and 6 for a text of so many bytes and an output of so many. The fourth subtracts, since a sum could wrap.
@@ -31,21 +37,21 @@ fn settled_sealing(
     stretch: StretchBytes,
     text: usize,
     room: usize,
-) -> u32
+) -> Refusal
     ensures { λ r. ⌜ r ≡ settledSealing (now (key .entry)) (now (header .entry)) (stretch .0) text room ⌝ }
 {
     let first = settled(key, header, stretch);
-    if first != 0 {
+    if first.number != 0 {
         return first;
     }
     let t = stretch.0 as usize;
     if 65536 - t < text {
-        return 4;
+        return Refusal { number: 4, at: 0 };
     }
     if room < text + t {
-        return 6;
+        return Refusal { number: 6, at: 0 };
     }
-    0
+    Refusal { number: 0, at: 0 }
 }
 
 // Tests 1 to 6 for a sealed string of so many bytes and an output of so many.
@@ -55,39 +61,53 @@ fn settled_opening(
     stretch: StretchBytes,
     sealed: usize,
     room: usize,
-) -> u32
+) -> Refusal
     ensures { λ r. ⌜ r ≡ settledOpening (now (key .entry)) (now (header .entry)) (stretch .0) sealed room ⌝ }
 {
     let first = settled(key, header, stretch);
-    if first != 0 {
+    if first.number != 0 {
         return first;
     }
     let t = stretch.0 as usize;
     if 65536 < sealed {
-        return 4;
+        return Refusal { number: 4, at: 0 };
     }
     if sealed < t {
-        return 5;
+        return Refusal { number: 5, at: 0 };
     }
     if room < sealed {
-        return 6;
+        return Refusal { number: 6, at: 0 };
     }
-    0
+    Refusal { number: 0, at: 0 }
 }
 
 // Sealing. Nothing is written before the answer is settled.
-pub fn seal(key: &[u8], header: &[u8], stretch: StretchBytes, text: &[u8], out: &mut [u8]) -> Answer
-    ensures { λ r. ⌜ outcome r (now (out .exit)) ≡ sealing (now (key .entry)) (now (header .entry)) (stretch .0) (now (text .entry)) (now (out .entry)) ⌝ }
+pub fn seal(
+    key: &[u8],
+    header: &[u8],
+    stretch: StretchBytes,
+    text: &[u8],
+    out: &mut [u8],
+) -> AnswerAt
+    ensures { λ r. ⌜ outcomeAt r (now (out .exit)) ≡ sealing (now (key .entry)) (now (header .entry)) (stretch .0) (now (text .entry)) (now (out .entry)) ⌝ }
 {
-    let number = settled_sealing(key, header, stretch, text.len(), out.len());
-    if number != 0 {
-        return Answer { number, length: 0 };
+    let refused = settled_sealing(key, header, stretch, text.len(), out.len());
+    if refused.number != 0 {
+        return AnswerAt {
+            number: refused.number,
+            length: 0,
+            place: refused.at,
+        };
     }
     let k = tbc::key_of(key);
     let delta = hash::delta(k, stretch.bits(), header);
     let length = text.len() + stretch.0 as usize;
     cipher::encrypt(k, delta, text, &mut out[0..length]);
-    Answer { number, length }
+    AnswerAt {
+        number: 0,
+        length,
+        place: 0,
+    }
 }
 
 // Opening, the numbered form. Nothing is written before answers 1 to 6 are settled.
@@ -97,14 +117,15 @@ pub fn open(
     stretch: StretchBytes,
     sealed: &[u8],
     out: &mut [u8],
-) -> Answer
-    ensures { λ r. ⌜ outcome r (now (out .exit)) ≡ opening (now (key .entry)) (now (header .entry)) (stretch .0) (now (sealed .entry)) (now (out .entry)) ⌝ }
+) -> AnswerAt
+    ensures { λ r. ⌜ outcomeAt r (now (out .exit)) ≡ opening (now (key .entry)) (now (header .entry)) (stretch .0) (now (sealed .entry)) (now (out .entry)) ⌝ }
 {
     let refusal = settled_opening(key, header, stretch, sealed.len(), out.len());
-    if refusal != 0 {
-        return Answer {
-            number: refusal,
+    if refusal.number != 0 {
+        return AnswerAt {
+            number: refusal.number,
             length: 0,
+            place: refusal.at,
         };
     }
     let k = tbc::key_of(key);
@@ -112,14 +133,16 @@ pub fn open(
     let n = sealed.len();
     let t = stretch.0 as usize;
     if cipher::decrypt(k, delta, t, sealed, &mut out[0..n]) {
-        return Answer {
+        return AnswerAt {
             number: 0,
             length: n - t,
+            place: 0,
         };
     }
-    Answer {
+    AnswerAt {
         number: 7,
         length: 0,
+        place: 0,
     }
 }
 

@@ -21,21 +21,21 @@ settled c = c .before .before .before
 abbrev keyed : tie.After-decrypt → tie.After-delta
 keyed c = c .before .before
 
-fits : (c : tie.Else1) → let a = start (c .before) .args in Openable (a .key .now) (a .header .now) (a .stretch .0) (length (a .sealed .now)) (length (a .out .now))
+fits : (c : tie.Else1) → let a = start (c .before .before) .args in Openable (a .key .now) (a .header .now) (a .stretch .0) (length (a .sealed .now)) (length (a .out .now))
 fits c =
-    let n = c .before .settled-opening in
-    let a = start (c .before) .args in
+    let n = c .before .before .settled-opening in
+    let a = start (c .before .before) .args in
     opening-fits (a .key .now) (a .header .now) (a .stretch .0) (length (a .sealed .now)) (length (a .out .now)) (n .result) (n .ensures) (c .if1 .left)
 
 -- what is returned and left, by whether the check held
 answers : (c : tie.After-decrypt) (b : Bool) → c .decrypt .result ≡ b
-    → let a = start (settled (keyed c) .before) .args in
+    → let a = start (settled (keyed c) .before .before) .args in
     left (a .out .now) (c .decrypt .last .1 .1 .1 .1 .0) (a .stretch .0) (a .sealed .now) b ≡ opening (a .key .now) (a .header .now) (a .stretch .0) (a .sealed .now) (a .out .now)
 answers w =
     let d = keyed w in
     let e = settled d in
-    let n = e .before .settled-opening in
-    let a = start (e .before) .args in
+    let n = e .before .before .settled-opening in
+    let a = start (e .before .before) .args in
     let k = d .before .before .key-of in
     opens-by (a .key .now) (a .header .now) (a .out .now) (w .decrypt .last .1 .1 .1 .1 .0) (a .stretch .0) (blocks (k .result)) (k .ensures) (d .before .bits .result .0) (d .before .bits .ensures) (d .delta .result) (d .delta .ensures)
     (a .sealed .now) (n .result) (n .ensures) (e .if1 .left) (w .decrypt .result) (w .decrypt .ensures .0) (w .decrypt .ensures .1) (w .decrypt .kept .1 .1 .1 .1 .0)
@@ -45,8 +45,8 @@ settled-opening-requires c κs = search needs
 
 returns : tie.Need-returns
 returns c =
-    let n = c .before .settled-opening in
-    let a = start (c .before) .args in
+    let n = c .before .before .settled-opening in
+    let a = start (c .before .before) .args in
     sym (opening-refused (a .key .now) (a .header .now) (a .stretch .0) (a .sealed .now) (a .out .now) (n .result) (n .ensures) (c .if1 .taken))
 
 key-of-requires : tie.Need-key-of-requires
@@ -70,7 +70,7 @@ part-decrypt-end c = fits (settled c) .has-room
 decrypt-requires : tie.Need-decrypt-requires
 decrypt-requires c κs =
     let e = settled (c .before) in
-    let a = start (e .before) .args in
+    let a = start (e .before .before) .args in
     let long = lent-long (a .out .now) (length (a .sealed .now)) (fits e .has-room) in
     (sym long, omega (arith, long, fits e .within), omega (arith, long, fits e .least), fits e .common .short)
 

@@ -20,10 +20,10 @@ settled c = c .before .before .before
 abbrev keyed : tie.After-encrypt → tie.After-delta
 keyed c = c .before .before
 
-fits : (c : tie.Else1) → let a = start (c .before) .args in Fits (a .key .now) (a .header .now) (a .stretch .0) (length (a .text .now)) (length (a .out .now))
+fits : (c : tie.Else1) → let a = start (c .before .before) .args in Fits (a .key .now) (a .header .now) (a .stretch .0) (length (a .text .now)) (length (a .out .now))
 fits c =
-    let n = c .before .settled-sealing in
-    let a = start (c .before) .args in
+    let n = c .before .before .settled-sealing in
+    let a = start (c .before .before) .args in
     sealing-fits (a .key .now) (a .header .now) (a .stretch .0) (length (a .text .now)) (length (a .out .now)) (n .result) (n .ensures) (c .if1 .left)
 
 settled-sealing-requires : tie.Need-settled-sealing-requires
@@ -31,8 +31,8 @@ settled-sealing-requires c κs = search needs
 
 returns : tie.Need-returns
 returns c =
-    let n = c .before .settled-sealing in
-    let a = start (c .before) .args in
+    let n = c .before .before .settled-sealing in
+    let a = start (c .before .before) .args in
     sym (sealing-refused (a .key .now) (a .header .now) (a .stretch .0) (a .text .now) (a .out .now) (n .result) (n .ensures) (c .if1 .taken))
 
 key-of-requires : tie.Need-key-of-requires
@@ -59,7 +59,7 @@ part-encrypt-end c = fits (settled c) .has-room
 encrypt-requires : tie.Need-encrypt-requires
 encrypt-requires c κs =
     let e = settled (c .before) in
-    let a = start (e .before) .args in
+    let a = start (e .before .before) .args in
     let long = lent-long (a .out .now) (length (a .text .now) + a .stretch .0) (fits e .has-room) in
     (omega (arith, long), omega (arith, long, fits e .within), omega (arith, long, fits e .common .short))
 
@@ -71,8 +71,8 @@ returns-2 c =
     let w = c .before .before in
     let d = keyed w in
     let e = settled d in
-    let n = e .before .settled-sealing in
-    let a = start (e .before) .args in
+    let n = e .before .before .settled-sealing in
+    let a = start (e .before .before) .args in
     let k = d .before .before .key-of in
     seals (a .key .now) (a .header .now) (a .out .now) (w .encrypt .last .1 .1 .1 .0) (a .stretch .0) (blocks (k .result)) (k .ensures) (d .before .bits .result .0) (d .before .bits .ensures) (d .delta .result) (d .delta .ensures)
     (a .text .now) (n .result) (n .ensures) (e .if1 .left) (w .encrypt .ensures) (w .encrypt .kept .1 .1 .1 .0)

@@ -7,7 +7,7 @@ use borrow.Author.Tests.{lt-ltb, le-ltb}
 use lib.Dec.{ltb}
 use Rattle.paper.specs.Strings.{if_then_else_}
 use Rattle.paper.specs.Document01.{longestSealed}
-use Rattle.record.specs.Settled.{settledCommon, settledOpening}
+use Rattle.record.specs.Settled.{refusal, settledCommon, settledOpening}
 use Rattle.record.proofs.Settles.{first-is, opening-then}
 use Rattle.record.proofs.settled_opening.Statement.{statement}
 use Rattle.record.proofs.settled_opening.Tie as tie
@@ -25,10 +25,10 @@ abbrev room : tie.After-settled → ℕ
 room c = start c .args .room
 
 -- past the common tests: the number by what the others found
-later : (c : tie.Else1) (b d f : Bool) → let s = c .before in ltb longestSealed (sealed s) ≡ b → ltb (sealed s) (t s) ≡ d → ltb (room s) (sealed s) ≡ f
-    → (if b then 4 else if d then 5 else if f then 6 else 0) ≡ settledOpening (start s .args .key .now) (start s .args .header .now) (t s) (sealed s) (room s)
+later : (c : tie.Else1) (b d f : Bool) → let s = c .before .before in ltb longestSealed (sealed s) ≡ b → ltb (sealed s) (t s) ≡ d → ltb (room s) (sealed s) ≡ f
+    → (if b then refusal 4 0 else if d then refusal 5 0 else if f then refusal 6 0 else refusal 0 0) ≡ settledOpening (start s .args .key .now) (start s .args .header .now) (t s) (sealed s) (room s)
 later c b d f =
-    let s = c .before in
+    let s = c .before .before in
     let a = start s .args in
     opening-then (a .key .now) (a .header .now) (t s) (sealed s) (room s) (s .settled .result) b d f (s .settled .ensures) (c .if1 .left)
 
@@ -38,17 +38,17 @@ settled-requires c κs = search needs
 returns : tie.Need-returns
 unfolding settledOpening
 returns c =
-    let s = c .before in
+    let s = c .before .before in
     first-is (settledCommon (start s .args .key .now) (start s .args .header .now) (t s)) _ (s .settled .result) (s .settled .ensures) (c .if1 .taken)
 
 returns-2 : tie.Need-returns-2
 returns-2 c =
-    let s = c .before .before in
+    let s = c .before .before .before in
     later (c .before) true (ltb (sealed s) (t s)) (ltb (room s) (sealed s)) (lt-ltb _ _ (c .if2 .taken)) refl refl
 
 returns-3 : tie.Need-returns-3
 returns-3 c =
-    let s = c .before .before .before in
+    let s = c .before .before .before .before in
     later (c .before .before) false true (ltb (room s) (sealed s)) (le-ltb _ _ (c .before .if2 .left)) (lt-ltb _ _ (c .if3 .taken)) refl
 
 returns-4 : tie.Need-returns-4
