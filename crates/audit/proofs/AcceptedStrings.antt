@@ -12,7 +12,7 @@ use Rattle.laws.proofs.Counting.{NoRepeats, allStrings}
 use Rattle.laws.proofs.Demand3 as laws
 use Rattle.laws.proofs.Demand3.{Fixed}
 use Rattle.laws.proofs.Accepted as accepted
-use Rattle.answer.specs.declared.Answer.{Answer}
+use Rattle.answer.specs.declared.AnswerAt.{AnswerAt}
 use Rattle.audit.proofs.Demands.{Opened, Within, Seals, seals-defined, seals-called, opens-iff-sealed}
 
 module _ (key header : Bytes) (strings : List Bytes) (t : ℕ) (fixed : Fixed key header strings t) (n : ℕ) (least : t ≤ n) (most : n ≤ longestSealed) where
@@ -20,8 +20,8 @@ module _ (key header : Bytes) (strings : List Bytes) (t : ℕ) (fixed : Fixed ke
   -- room answers 0, and a string on which one such opening answered 0 is an entry
   pub record Count (l : List Bytes) : Type 0 where
     pub each-bytes : (C : Bytes) → List·Memᴰ C l → Digits 8 n C
-    pub each-opens : (C out : Bytes) (r : Answer) (last : Bytes) → List·Memᴰ C l → n ≤ length out → Opened key header t C out r last → r .number ≡ 0
-    pub all : (C out : Bytes) (r : Answer) (last : Bytes) → Digits 8 n C → n ≤ length out → Opened key header t C out r last → r .number ≡ 0 → List·Memᴰ C l
+    pub each-opens : (C out : Bytes) (r : AnswerAt) (last : Bytes) → List·Memᴰ C l → n ≤ length out → Opened key header t C out r last → r .number ≡ 0
+    pub all : (C out : Bytes) (r : AnswerAt) (last : Bytes) → Digits 8 n C → n ≤ length out → Opened key header t C out r last → r .number ≡ 0 → List·Memᴰ C l
     pub once : NoRepeats l
     pub count : length l ≡ 256 ^ (n - t)
 

@@ -15,13 +15,15 @@ use lib.Seq.{take-append-seam}
 use Rattle.paper.specs.Strings.{Bytes, Below}
 use Rattle.paper.specs.Figure6.{keyOf, E}
 use Rattle.paper.specs.Figure5.{encrypt, decrypt}
-use Rattle.paper.specs.Document01.{Outcome, refused, done, longestSealed, sealing, opened, opening}
+use Rattle.paper.specs.Document01.{OutcomeAt, beside, refused, done, longestSealed, sealing, opened, opening}
 use Rattle.laws.proofs.Tables.{no-entries}
+use Rattle.laws.proofs.Headers.{reads-as}
 use Rattle.laws.proofs.Demand3 as laws
 use Rattle.laws.proofs.Demand3.{Fixed}
-use Rattle.answer.specs.Outcomes.{outcome}
-use Rattle.answer.specs.declared.Answer.{Answer}
-use Rattle.record.specs.Settled.{settledCommon, settledSealing, settledOpening}
+use Rattle.answer.specs.Outcomes.{outcomeAt}
+use Rattle.answer.specs.declared.AnswerAt.{AnswerAt}
+use Rattle.record.specs.declared.Refusal.{Refusal}
+use Rattle.record.specs.Settled.{refusal, settledCommon, settledSealing, settledOpening}
 use Rattle.record.proofs.Settles.{Fits, sealing-fits, sealing-refused, sealing-done, sealing-then, opening-refused, opening-opened, opening-then, opening-fits, opening-most}
 use Rattle.record.proofs.seal.Reads as seal-reads
 use Rattle.record.proofs.«open».Reads as open-reads
@@ -29,11 +31,11 @@ use Rattle.record.proofs.«open».Reads as open-reads
 -- ---- The two contracts
 
 -- a call that was lent these slices answered r and left these bytes in the output
-abbrev pub Sealed : (key header : Bytes) (t : ℕ) (text out : Bytes) (r : Answer) (last : Bytes) → Type 0
-Sealed key header t text out r last = outcome r last ≡ sealing key header t text out
+abbrev pub Sealed : (key header : Bytes) (t : ℕ) (text out : Bytes) (r : AnswerAt) (last : Bytes) → Type 0
+Sealed key header t text out r last = outcomeAt r last ≡ sealing key header t text out
 
-abbrev pub Opened : (key header : Bytes) (t : ℕ) (sealed out : Bytes) (r : Answer) (last : Bytes) → Type 0
-Opened key header t sealed out r last = outcome r last ≡ opening key header t sealed out
+abbrev pub Opened : (key header : Bytes) (t : ℕ) (sealed out : Bytes) (r : AnswerAt) (last : Bytes) → Type 0
+Opened key header t sealed out r last = outcomeAt r last ≡ opening key header t sealed out
 
 -- they are the contracts that the checker made from the source
 pub seal-promises : (κs : _) (a : _) (r : _) (e : _) → seal-reads.Learnt κs a r e
@@ -47,36 +49,36 @@ open-promises κs a r e p = p
 module _ (key header : Bytes) (strings : List Bytes) (t : ℕ) (fixed : Fixed key header strings t) where
   -- ---- What the calls do with a valid key, header and stretch
 
-  passes : settledCommon key header t ≡ 0
+  passes : settledCommon key header t ≡ refusal 0 0
   unfolding settledCommon
-  passes = simp (eq-eqb _ _ (fixed .key-bytes .len), le-ltb _ _ (fixed .short), fixed .reads)
+  passes = simp (eq-eqb _ _ (fixed .key-bytes .len), le-ltb _ _ (fixed .short), reads-as header strings (fixed .reads))
 
   seals-to : (M out : Bytes) → length M + t ≤ longestSealed → length M + t ≤ length out
-      → sealing key header t M out ≡ done (length M + t) (encrypt (E (keyOf key)) strings t M) out
+      → sealing key header t M out ≡ beside 0 (done (length M + t) (encrypt (E (keyOf key)) strings t M) out)
   seals-to M out p q =
-      sealing-done key header t M out 0 strings (sealing-then key header t (length M) (length out) 0 false false (sym passes) refl (le-ltb _ _ p) (le-ltb _ _ q)) refl (fixed .reads)
+      sealing-done key header t M out (refusal 0 0) strings (sealing-then key header t (length M) (length out) (refusal 0 0) false false (sym passes) refl (le-ltb _ _ p) (le-ltb _ _ q)) refl (fixed .reads)
 
   opens-to : (C out : Bytes) → length C ≤ longestSealed → t ≤ length C → length C ≤ length out
-      → opening key header t C out ≡ opened (decrypt (E (keyOf key)) strings t C) t (length C) out
+      → opening key header t C out ≡ beside 0 (opened (decrypt (E (keyOf key)) strings t C) t (length C) out)
   opens-to C out p q r =
-      opening-opened key header t C out 0 strings (opening-then key header t (length C) (length out) 0 false false false (sym passes) refl (le-ltb _ _ p) (le-ltb _ _ q) (le-ltb _ _ r)) refl (fixed .reads)
+      opening-opened key header t C out (refusal 0 0) strings (opening-then key header t (length C) (length out) (refusal 0 0) false false false (sym passes) refl (le-ltb _ _ p) (le-ltb _ _ q) (le-ltb _ _ r)) refl (fixed .reads)
 
-  too-short : (C out : Bytes) → length C ≤ longestSealed → length C < t → opening key header t C out ≡ refused 5 out
+  too-short : (C out : Bytes) → length C ≤ longestSealed → length C < t → opening key header t C out ≡ beside 0 (refused 5 out)
   too-short C out p q =
-      opening-refused key header t C out 5 (opening-then key header t (length C) (length out) 0 false true (ltb (length out) (length C)) (sym passes) refl (le-ltb _ _ p) (lt-ltb _ _ q) refl) (λ z. omega (arith, z))
+      opening-refused key header t C out (refusal 5 0) (opening-then key header t (length C) (length out) (refusal 0 0) false true (ltb (length out) (length C)) (sym passes) refl (le-ltb _ _ p) (lt-ltb _ _ q) refl) (λ z. omega (arith, z))
 
   -- sealing that answers 0 passed its tests
   sealed-fits : (M out : Bytes) → sealing key header t M out .number ≡ 0 → Fits key header t (length M) (length out)
-  sealed-fits M out z = go (settledSealing key header t (length M) (length out)) refl (eqb (settledSealing key header t (length M) (length out)) 0) refl
+  sealed-fits M out z = go (settledSealing key header t (length M) (length out)) refl (eqb (settledSealing key header t (length M) (length out) .number) 0) refl
     where
-      go : (n : ℕ) → n ≡ settledSealing key header t (length M) (length out) → (b : Bool) → eqb n 0 ≡ b → Fits key header t (length M) (length out)
-      go n s true e = sealing-fits key header t (length M) (length out) n s (eqb-true n 0 e)
-      go n s false e = absurd (eqb-false n 0 e (sym (ap (λ (o : Outcome). o .number) (sealing-refused key header t M out n s (eqb-false n 0 e))) ∙ z))
+      go : (n : Refusal) → n ≡ settledSealing key header t (length M) (length out) → (b : Bool) → eqb (n .number) 0 ≡ b → Fits key header t (length M) (length out)
+      go n s true e = sealing-fits key header t (length M) (length out) n s (eqb-true (n .number) 0 e)
+      go n s false e = absurd (eqb-false (n .number) 0 e (sym (ap (λ (o : OutcomeAt). o .number) (sealing-refused key header t M out n s (eqb-false (n .number) 0 e))) ∙ z))
 
   -- M is a text, and a call that seals it into any output with room answers 0 and puts C first
   pub record Seals (M C : Bytes) : Type 0 where
     pub text : Below 256 M
-    pub call : (out : Bytes) → length C ≤ length out → sealing key header t M out ≡ done (length C) C out
+    pub call : (out : Bytes) → length C ≤ length out → sealing key header t M out ≡ beside 0 (done (length C) C out)
 
   -- C is a string of bytes within the limit
   abbrev pub Within : Bytes → Type 0
@@ -86,14 +88,14 @@ module _ (key header : Bytes) (strings : List Bytes) (t : ℕ) (fixed : Fixed ke
   pub seals-defined : (M C : Bytes) → Seals M C → laws.Seals key header strings t fixed M C
   seals-defined M C s =
       let out : Bytes = C in
-      let fits = sealed-fits M C (ap (λ (o : Outcome). o .number) (s .call C (omega arith))) in
+      let fits = sealed-fits M C (ap (λ (o : OutcomeAt). o .number) (s .call C (omega arith))) in
       let both = sym (seals-to M C (fits .within) (fits .has-room)) ∙ s .call C (omega arith) in
       let X : Bytes = encrypt (E (keyOf key)) strings t M in
-      let size : length M + t ≡ length C = ap (λ (o : Outcome). o .size) both in
+      let size : length M + t ≡ length C = ap (λ (o : OutcomeAt). o .size) both in
       let long : length X ≡ length M + t = laws.sealed-length key header strings t fixed M (s .text) in
       let end : drop (length X) C ≡ [] = no-entries (drop (length X) C) (length-drop (length X) C ∙ omega (arith, size, long)) in
       let last : drop (length C) C ≡ [] = no-entries (drop (length C) C) (length-drop (length C) C ∙ omega arith) in
-      let same : X ++ drop (length X) C ≡ C ++ drop (length C) C = ap (λ (o : Outcome). o .output) both in
+      let same : X ++ drop (length X) C ≡ C ++ drop (length C) C = ap (λ (o : OutcomeAt). o .output) both in
       record {
         text = s .text;
         to = sym (append-nil X) ∙ ap (λ (l : Bytes). X ++ l) (sym end) ∙ same ∙ ap (λ (l : Bytes). C ++ l) last ∙ append-nil C;
@@ -104,19 +106,19 @@ module _ (key header : Bytes) (strings : List Bytes) (t : ℕ) (fixed : Fixed ke
       let long : length M + t ≡ length C = sym (laws.sealed-length key header strings t fixed M (s .text)) ∙ ap length (s .to) in
       record {
         text = s .text;
-        call = λ out room. seals-to M out (omega (arith, long, w .limit)) (omega (arith, long)) ∙ (λ i. done (long i) (s .to i) out);
+        call = λ out room. seals-to M out (omega (arith, long, w .limit)) (omega (arith, long)) ∙ (λ i. beside 0 (done (long i) (s .to i) out));
       }
 
   -- ---- Demand 3 for the calls
 
   -- opening's call on a string that the definition opens to M, and on one that it does not open
   opens-with : (C out M : Bytes) → Within C → length C ≤ length out → decrypt (E (keyOf key)) strings t C ≡ some M → t ≤ length C
-      → opening key header t C out ≡ done (length M) (M ++ replicate t 0) out
+      → opening key header t C out ≡ beside 0 (done (length M) (M ++ replicate t 0) out)
   unfolding opened
-  opens-with C out M w room e p = opens-to C out (w .limit) p room ∙ ap (λ (o : Option Bytes). opened o t (length C) out) e
+  opens-with C out M w room e p = opens-to C out (w .limit) p room ∙ ap (λ (o : Option Bytes). beside 0 (opened o t (length C) out)) e
 
   -- a string that some text seals to opens to that text, in any output with room
-  pub seals-opens : (M C out : Bytes) → Within C → length C ≤ length out → Seals M C → opening key header t C out ≡ done (length M) (M ++ replicate t 0) out
+  pub seals-opens : (M C out : Bytes) → Within C → length C ≤ length out → Seals M C → opening key header t C out ≡ beside 0 (done (length M) (M ++ replicate t 0) out)
   seals-opens M C out w room s =
       let d = seals-defined M C s in
       let long : length C ≡ length M + t = ap length (sym (d .to)) ∙ laws.sealed-length key header strings t fixed M (s .text) in
@@ -132,15 +134,15 @@ module _ (key header : Bytes) (strings : List Bytes) (t : ℕ) (fixed : Fixed ke
       by (some M) e n = (M, seals-called M C w (laws.opened-seals key header strings t fixed M C (w .bytes) e))
 
       go : (b : Bool) → ltb (length C) t ≡ b → (M : Bytes) × Seals M C
-      go true e = absurd (omega (arith, ap (λ (o : Outcome). o .number) (too-short C out (w .limit) (ltb-true (length C) t e)), z))
-      go false e = by (decrypt (E (keyOf key)) strings t C) refl (sym (ap (λ (o : Outcome). o .number) (opens-to C out (w .limit) (ltb-false (length C) t e) room)) ∙ z)
+      go true e = absurd (omega (arith, ap (λ (o : OutcomeAt). o .number) (too-short C out (w .limit) (ltb-true (length C) t e)), z))
+      go false e = by (decrypt (E (keyOf key)) strings t C) refl (sym (ap (λ (o : OutcomeAt). o .number) (opens-to C out (w .limit) (ltb-false (length C) t e) room)) ∙ z)
 
-  module _ (C out : Bytes) (w : Within C) (room : length C ≤ length out) (r : Answer) (last : Bytes) (call : Opened key header t C out r last) where
+  module _ (C out : Bytes) (w : Within C) (room : length C ≤ length out) (r : AnswerAt) (last : Bytes) (call : Opened key header t C out r last) where
     -- opening answers 0 exactly if some text seals to the string
     pub opens-iff-sealed : (r .number ≡ 0) ↔ ((M : Bytes) × Seals M C)
     opens-iff-sealed = (
-      (λ z. opens-seals C out w room (sym (ap (λ (o : Outcome). o .number) call) ∙ z)),
-      (λ s. ap (λ (o : Outcome). o .number) (call ∙ seals-opens (s .0) C out w room (s .1))),
+      (λ z. opens-seals C out w room (sym (ap (λ (o : OutcomeAt). o .number) call) ∙ z)),
+      (λ s. ap (λ (o : OutcomeAt). o .number) (call ∙ seals-opens (s .0) C out w room (s .1))),
     )
 
     -- and it returns that text: its length, and in the output the text, as many zeros as the stretch, and all later bytes as they were
@@ -150,13 +152,13 @@ module _ (key header : Bytes) (strings : List Bytes) (t : ℕ) (fixed : Fixed ke
         let d = seals-defined M C s in
         let long : length C ≡ length M + t = ap length (sym (d .to)) ∙ laws.sealed-length key header strings t fixed M (s .text) in
         let all : length (M ++ replicate t 0) ≡ length C = length-append M (replicate t 0) ∙ ap (λ (k : ℕ). length M + k) (length-replicate t 0) ∙ sym long in
-        (ap (λ (o : Outcome). o .size) e, ap (λ (o : Outcome). o .output) e ∙ ap (λ (k : ℕ). M ++ replicate t 0 ++ drop k out) all)
+        (ap (λ (o : OutcomeAt). o .size) e, ap (λ (o : OutcomeAt). o .output) e ∙ ap (λ (k : ℕ). M ++ replicate t 0 ++ drop k out) all)
 
     -- at stretch 0 it always answers 0
     pub opens-at-stretch-0 : t ≡ 0 → r .number ≡ 0
     opens-at-stretch-0 z =
         let o = laws.opens-at-stretch-0 key header strings t fixed z C w in
-        ap (λ (o : Outcome). o .number) (call ∙ opens-with C out (o .0) w room (o .1) (omega (arith, z)))
+        ap (λ (o : OutcomeAt). o .number) (call ∙ opens-with C out (o .0) w room (o .1) (omega (arith, z)))
 
   -- that text is the only one
   pub only-text : (M N C : Bytes) → Seals M C → Seals N C → M ≡ N
@@ -164,18 +166,18 @@ module _ (key header : Bytes) (strings : List Bytes) (t : ℕ) (fixed : Fixed ke
 
   -- ---- What a sealing call wrote
 
-  module _ (M out : Bytes) (text : Below 256 M) (r : Answer) (last : Bytes) (call : Sealed key header t M out r last) (done-0 : r .number ≡ 0) where
+  module _ (M out : Bytes) (text : Below 256 M) (r : AnswerAt) (last : Bytes) (call : Sealed key header t M out r last) (done-0 : r .number ≡ 0) where
     -- what stands first in its output: a string that M seals to
     abbrev pub written : Bytes
     written = take (r .length) last
 
     written-is : (written ≡ encrypt (E (keyOf key)) strings t M) × (length M + t ≤ longestSealed)
     written-is =
-        let fits = sealed-fits M out (sym (ap (λ (o : Outcome). o .number) call) ∙ done-0) in
+        let fits = sealed-fits M out (sym (ap (λ (o : OutcomeAt). o .number) call) ∙ done-0) in
         let e = call ∙ seals-to M out (fits .within) (fits .has-room) in
         let X : Bytes = encrypt (E (keyOf key)) strings t M in
-        let size : r .length ≡ length X = ap (λ (o : Outcome). o .size) e ∙ sym (laws.sealed-length key header strings t fixed M text) in
-        ((λ i. take (size i) (ap (λ (o : Outcome). o .output) e i)) ∙ take-append-seam X (drop (length X) out), fits .within)
+        let size : r .length ≡ length X = ap (λ (o : OutcomeAt). o .size) e ∙ sym (laws.sealed-length key header strings t fixed M text) in
+        ((λ i. take (size i) (ap (λ (o : OutcomeAt). o .output) e i)) ∙ take-append-seam X (drop (length X) out), fits .within)
 
     written-long : length written ≡ length M + t
     written-long = ap length (written-is .0) ∙ laws.sealed-length key header strings t fixed M text
@@ -191,7 +193,7 @@ module _ (key header : Bytes) (strings : List Bytes) (t : ℕ) (fixed : Fixed ke
     written-sealed = seals-called M written written-within (record { text = text; to = sym (written-is .0) })
 
     -- the numbered opening of what sealing wrote is answer 0 with the text
-    pub open-after-seal : (buffer : Bytes) (s : Answer) (left : Bytes) → length M + t ≤ length buffer → Opened key header t written buffer s left
+    pub open-after-seal : (buffer : Bytes) (s : AnswerAt) (left : Bytes) → length M + t ≤ length buffer → Opened key header t written buffer s left
         → (s .number ≡ 0) × (s .length ≡ length M) × (left ≡ M ++ replicate t 0 ++ drop (length M + t) buffer)
     open-after-seal buffer s left room o =
         let fits : length written ≤ length buffer = omega (arith, written-long) in
@@ -202,14 +204,14 @@ module _ (key header : Bytes) (strings : List Bytes) (t : ℕ) (fixed : Fixed ke
         )
 
   -- two texts that are sealed have equal sealed strings only if they are equal
-  pub sealing-one-to-one : (M N out room : Bytes) (p : Below 256 M) (q : Below 256 N) (r s : Answer) (last left : Bytes)
+  pub sealing-one-to-one : (M N out room : Bytes) (p : Below 256 M) (q : Below 256 N) (r s : AnswerAt) (last left : Bytes)
       → Sealed key header t M out r last → Sealed key header t N room s left → r .number ≡ 0 → s .number ≡ 0
       → take (r .length) last ≡ take (s .length) left → M ≡ N
   sealing-one-to-one M N out room p q r s last left c d y z e =
       only-text M N (take (s .length) left) (subst (Seals M) e (written-sealed M out p r last c y)) (written-sealed N room q s left d z)
 
 -- an empty sealed string at stretch 0 opens to the empty text, and the output is as it was
-pub empty-string-opens : (key header : Bytes) (strings : List Bytes) (fixed : Fixed key header strings 0) (out : Bytes) (r : Answer) (last : Bytes)
+pub empty-string-opens : (key header : Bytes) (strings : List Bytes) (fixed : Fixed key header strings 0) (out : Bytes) (r : AnswerAt) (last : Bytes)
     → Opened key header 0 [] out r last → (r .number ≡ 0) × (r .length ≡ 0) × (last ≡ out)
 empty-string-opens key header strings fixed out r last call =
     let within : Within key header strings 0 fixed [] = record { bytes = tt; limit = omega arith } in
@@ -221,15 +223,15 @@ empty-string-opens key header strings fixed out r last call =
     (opens, returned .0 ∙ none-there, returned .1 ∙ ap (λ (l : Bytes). l ++ replicate 0 0 ++ drop 0 out) (no-entries (text .0) none-there))
 
 -- at stretch 0 answer 7 never comes, whatever the key, the header, the string and the output are
-pub never-7-at-stretch-0 : (key header C out : Bytes) (r : Answer) (last : Bytes) → Below 256 key → Below 256 header → Below 256 C
+pub never-7-at-stretch-0 : (key header C out : Bytes) (r : AnswerAt) (last : Bytes) → Below 256 key → Below 256 header → Below 256 C
     → Opened key header 0 C out r last → (r .number ≡ 7 → ⊥)
-never-7-at-stretch-0 key header C out r last k h b call seven = go (settledOpening key header 0 (length C) (length out)) refl (eqb (settledOpening key header 0 (length C) (length out)) 0) refl
+never-7-at-stretch-0 key header C out r last k h b call seven = go (settledOpening key header 0 (length C) (length out)) refl (eqb (settledOpening key header 0 (length C) (length out) .number) 0) refl
   where
-    go : (n : ℕ) → n ≡ settledOpening key header 0 (length C) (length out) → (t : Bool) → eqb n 0 ≡ t → ⊥
+    go : (n : Refusal) → n ≡ settledOpening key header 0 (length C) (length out) → (t : Bool) → eqb (n .number) 0 ≡ t → ⊥
     go n s true e =
-        let fits = opening-fits key header 0 (length C) (length out) n s (eqb-true n 0 e) in
+        let fits = opening-fits key header 0 (length C) (length out) n s (eqb-true (n .number) 0 e) in
         let fixed : Fixed key header (fits .common .strings) 0 =
         record { key-bytes = record { len = fits .common .key-long; low = k }; header-bytes = h; reads = fits .common .reads; short = fits .common .short } in
         omega (arith, opens-at-stretch-0 key header (fits .common .strings) 0 fixed C out (record { bytes = b; limit = fits .within }) (fits .has-room) r last call refl, seven)
     go n s false e =
-        omega (arith, opening-most key header 0 (length C) (length out), s, ap (λ (o : Outcome). o .number) (call ∙ opening-refused key header 0 C out n s (eqb-false n 0 e)), seven)
+        omega (arith, opening-most key header 0 (length C) (length out), ap (λ (r : Refusal). r .number) s, ap (λ (o : OutcomeAt). o .number) (call ∙ opening-refused key header 0 C out n s (eqb-false (n .number) 0 e)), seven)

@@ -6,9 +6,10 @@ use mathlib.Core.Path.{_≡_, ap, sym, _∙_}
 use denote.Ref.{now, ptr}
 use Rattle.paper.specs.Strings.{Bytes}
 use Rattle.paper.specs.Figure6 as figure6
-use Rattle.paper.specs.Document01.{Outcome}
-use Rattle.answer.specs.Outcomes.{outcome}
+use Rattle.paper.specs.Document01.{Outcome, OutcomeAt}
+use Rattle.answer.specs.Outcomes.{outcome, outcomeAt}
 use Rattle.answer.specs.declared.Answer.{Answer}
+use Rattle.answer.specs.declared.AnswerAt.{AnswerAt}
 use Rattle.tbc.specs.declared.Key.{Key}
 use Rattle.tbc.specs.Meaning.{blocks}
 use Rattle.block.proofs.xor.Reads as block-xor
@@ -48,6 +49,9 @@ use Rattle.record.proofs.«open».Reads as record-open
 use Rattle.record.proofs.open_part.Reads as record-open-part
 use Rattle.aez.proofs.aez_seal.Reads as exported-seal
 use Rattle.aez.proofs.aez_open.Reads as exported-open
+use Rattle.aez.proofs.aez_seal_at.Reads as exported-seal-at
+use Rattle.aez.proofs.aez_open_at.Reads as exported-open-at
+use Rattle.aez.proofs.aez_header_read.Reads as exported-header-read
 use Rattle.aez.proofs.aez_log_header.Reads as exported-log-header
 
 -- ---- The general lemmas
@@ -61,6 +65,11 @@ one-outcome : (z w : Answer) (X Y : Bytes) (o : Outcome) → outcome z X ≡ o �
 one-outcome z w X Y o p q =
     let e : outcome z X ≡ outcome w Y = one p q in
     (ap (λ (o : Outcome). record { number = o .number; length = o .size }) e, ap (λ (o : Outcome). o .output) e)
+
+one-outcome-at : (z w : AnswerAt) (X Y : Bytes) (o : OutcomeAt) → outcomeAt z X ≡ o → outcomeAt w Y ≡ o → (z ≡ w) × (X ≡ Y)
+one-outcome-at z w X Y o p q =
+    let e : outcomeAt z X ≡ outcomeAt w Y = one p q in
+    (ap (λ (o : OutcomeAt). record { number = o .number; length = o .size; place = o .place }) e, ap (λ (o : OutcomeAt). o .output) e)
 
 -- a key record by its blocks
 one-key : (z w : Key) (k : figure6.Key) → blocks z ≡ k → blocks w ≡ k → z ≡ w
@@ -183,10 +192,10 @@ cipher-decrypt-determined κs a z w e f p q = (one (p .0) (q .0), one (p .1) (q 
 -- ---- Sealing and opening: `record`
 
 pub record-seal-determined : (κs : _) (a : _) (z w : _) (e f : _) → record-seal.Learnt κs a z e → record-seal.Learnt κs a w f → (z ≡ w) × (now (e .1 .1 .1 .1 .0) ≡ now (f .1 .1 .1 .1 .0))
-record-seal-determined κs a z w e f p q = one-outcome z w (now (e .1 .1 .1 .1 .0)) (now (f .1 .1 .1 .1 .0)) _ p q
+record-seal-determined κs a z w e f p q = one-outcome-at z w (now (e .1 .1 .1 .1 .0)) (now (f .1 .1 .1 .1 .0)) _ p q
 
 pub record-open-determined : (κs : _) (a : _) (z w : _) (e f : _) → record-open.Learnt κs a z e → record-open.Learnt κs a w f → (z ≡ w) × (now (e .1 .1 .1 .1 .0) ≡ now (f .1 .1 .1 .1 .0))
-record-open-determined κs a z w e f p q = one-outcome z w (now (e .1 .1 .1 .1 .0)) (now (f .1 .1 .1 .1 .0)) _ p q
+record-open-determined κs a z w e f p q = one-outcome-at z w (now (e .1 .1 .1 .1 .0)) (now (f .1 .1 .1 .1 .0)) _ p q
 
 -- the part begins where the output does, and its bytes are determined; what lies past it no contract can say (docs/CONTRACTS.md)
 pub record-open-part-determined : (κs : _) (a : _) (z w : _) (e f : _) → record-open-part.Learnt κs a z e → record-open-part.Learnt κs a w f → (ptr z ≡ ptr w) × (now z ≡ now w)
@@ -199,6 +208,18 @@ exported-seal-determined κs a z w e f p q = (one (p .0) (q .0), one (p .1) (q .
 
 pub exported-open-determined : (κs : _) (a : _) (z w : _) (e f : _) → exported-open.Learnt κs a z e → exported-open.Learnt κs a w f → (z ≡ w) × (now (e .1 .1 .1 .1 .0) ≡ now (f .1 .1 .1 .1 .0))
 exported-open-determined κs a z w e f p q = (one (p .0) (q .0), one (p .1) (q .1))
+
+pub exported-seal-at-determined : (κs : _) (a : _) (z w : _) (e f : _) → exported-seal-at.Learnt κs a z e → exported-seal-at.Learnt κs a w f
+    → (z ≡ w) × (now (e .1 .1 .1 .1 .0) ≡ now (f .1 .1 .1 .1 .0)) × (now (e .1 .1 .1 .1 .1 .0) ≡ now (f .1 .1 .1 .1 .1 .0))
+exported-seal-at-determined κs a z w e f p q = (one (p .0) (q .0), one (p .1) (q .1), one (p .2) (q .2))
+
+pub exported-open-at-determined : (κs : _) (a : _) (z w : _) (e f : _) → exported-open-at.Learnt κs a z e → exported-open-at.Learnt κs a w f
+    → (z ≡ w) × (now (e .1 .1 .1 .1 .0) ≡ now (f .1 .1 .1 .1 .0)) × (now (e .1 .1 .1 .1 .1 .0) ≡ now (f .1 .1 .1 .1 .1 .0))
+exported-open-at-determined κs a z w e f p q = (one (p .0) (q .0), one (p .1) (q .1), one (p .2) (q .2))
+
+pub exported-header-read-determined : (κs : _) (a : _) (z w : _) (e f : _) → exported-header-read.Learnt κs a z e → exported-header-read.Learnt κs a w f
+    → (z ≡ w) × (now (e .1 .0) ≡ now (f .1 .0)) × (now (e .1 .1 .0) ≡ now (f .1 .1 .0))
+exported-header-read-determined κs a z w e f p q = (one (p .0) (q .0), one (p .1) (q .1), one (p .2) (q .2))
 
 pub exported-log-header-determined : (κs : _) (a : _) (z w : _) (e f : _) → exported-log-header.Learnt κs a z e → exported-log-header.Learnt κs a w f → (z ≡ w) × (now (e .1 .1 .1 .1 .0) ≡ now (f .1 .1 .1 .1 .0))
 exported-log-header-determined κs a z w e f p q = (one (p .0) (q .0), one (p .1) (q .1))

@@ -9,38 +9,39 @@ use borrow.Author.Tests.{eqb-true, eqb-false, ltb-false}
 use lib.Dec.{eqb, ltb}
 use lib.ListN.{length, length-append}
 use Rattle.paper.specs.Strings.{Bytes, Below, if_then_else_, digits}
-use Rattle.paper.specs.Document01.{Outcome, refused, done, longestString, writeStrings, writeHeader, logItems, logHeader, buildingLogHeader}
+use Rattle.paper.specs.Document01.{Outcome, OutcomeAt, refused, done, longestString, writeStrings, writeHeader, logItems, logHeader, buildingLogHeader}
 use Rattle.laws.proofs.BitStrings.{length-digits}
 use Rattle.laws.proofs.Demand3 as laws
 use Rattle.laws.proofs.Demand3.{Fixed}
-use Rattle.answer.specs.declared.Answer.{Answer}
+use Rattle.answer.specs.declared.AnswerAt.{AnswerAt}
+use Rattle.record.specs.declared.Refusal.{Refusal}
 use Rattle.record.specs.Settled.{settledSealing, settledOpening}
 use Rattle.record.proofs.Settles.{sealing-fits, sealing-refused, sealing-done, opening-fits, opening-refused}
 use Rattle.audit.proofs.Demands.{Sealed, Opened, Within, seals-defined, opens-iff-sealed, opening-returns}
 
 -- sealing: the text's length and the stretch
-pub sealed-length : (key header : Bytes) (t : ℕ) (text out : Bytes) (r : Answer) (last : Bytes) → Sealed key header t text out r last → r .number ≡ 0
+pub sealed-length : (key header : Bytes) (t : ℕ) (text out : Bytes) (r : AnswerAt) (last : Bytes) → Sealed key header t text out r last → r .number ≡ 0
     → (r .length ≡ length text + t) × (r .length ≤ length out)
 sealed-length key header t text out r last call z =
-    go (settledSealing key header t (length text) (length out)) refl (eqb (settledSealing key header t (length text) (length out)) 0) refl
+    go (settledSealing key header t (length text) (length out)) refl (eqb (settledSealing key header t (length text) (length out) .number) 0) refl
   where
-    go : (n : ℕ) → n ≡ settledSealing key header t (length text) (length out) → (b : Bool) → eqb n 0 ≡ b → (r .length ≡ length text + t) × (r .length ≤ length out)
+    go : (n : Refusal) → n ≡ settledSealing key header t (length text) (length out) → (b : Bool) → eqb (n .number) 0 ≡ b → (r .length ≡ length text + t) × (r .length ≤ length out)
     go n s true e =
-        let fits = sealing-fits key header t (length text) (length out) n s (eqb-true n 0 e) in
-        let size = ap (λ (o : Outcome). o .size) (call ∙ sealing-done key header t text out n (fits .common .strings) s (eqb-true n 0 e) (fits .common .reads)) in
+        let fits = sealing-fits key header t (length text) (length out) n s (eqb-true (n .number) 0 e) in
+        let size = ap (λ (o : OutcomeAt). o .size) (call ∙ sealing-done key header t text out n (fits .common .strings) s (eqb-true (n .number) 0 e) (fits .common .reads)) in
         (size, omega (arith, size, fits .has-room))
     go n s false e =
-        absurd (eqb-false n 0 e (sym (ap (λ (o : Outcome). o .number) (call ∙ sealing-refused key header t text out n s (eqb-false n 0 e))) ∙ z))
+        absurd (eqb-false (n .number) 0 e (sym (ap (λ (o : OutcomeAt). o .number) (call ∙ sealing-refused key header t text out n s (eqb-false (n .number) 0 e))) ∙ z))
 
 -- opening: the sealed string's length less the stretch, which is not above it
-pub opened-length : (key header : Bytes) (t : ℕ) (C out : Bytes) (r : Answer) (last : Bytes) → Below 256 key → Below 256 header → Below 256 C
+pub opened-length : (key header : Bytes) (t : ℕ) (C out : Bytes) (r : AnswerAt) (last : Bytes) → Below 256 key → Below 256 header → Below 256 C
     → Opened key header t C out r last → r .number ≡ 0 → (t ≤ length C) × (r .length ≡ length C - t) × (r .length ≤ length out)
 opened-length key header t C out r last k h b call z =
-    go (settledOpening key header t (length C) (length out)) refl (eqb (settledOpening key header t (length C) (length out)) 0) refl
+    go (settledOpening key header t (length C) (length out)) refl (eqb (settledOpening key header t (length C) (length out) .number) 0) refl
   where
-    go : (n : ℕ) → n ≡ settledOpening key header t (length C) (length out) → (b : Bool) → eqb n 0 ≡ b → (t ≤ length C) × (r .length ≡ length C - t) × (r .length ≤ length out)
+    go : (n : Refusal) → n ≡ settledOpening key header t (length C) (length out) → (b : Bool) → eqb (n .number) 0 ≡ b → (t ≤ length C) × (r .length ≡ length C - t) × (r .length ≤ length out)
     go n s true e =
-        let fits = opening-fits key header t (length C) (length out) n s (eqb-true n 0 e) in
+        let fits = opening-fits key header t (length C) (length out) n s (eqb-true (n .number) 0 e) in
         let ss : List Bytes = fits .common .strings in
         let fixed : Fixed key header ss t =
         record { key-bytes = record { len = fits .common .key-long; low = k }; header-bytes = h; reads = fits .common .reads; short = fits .common .short } in
@@ -51,7 +52,7 @@ opened-length key header t C out r last k h b call z =
         ap length (sym (seals-defined key header ss t fixed (text .0) C (text .1) .to)) ∙ laws.sealed-length key header ss t fixed (text .0) (text .1 .text) in
         (omega (arith, long), omega (arith, long, size), omega (arith, long, size, fits .has-room))
     go n s false e =
-        absurd (eqb-false n 0 e (sym (ap (λ (o : Outcome). o .number) (call ∙ opening-refused key header t C out n s (eqb-false n 0 e))) ∙ z))
+        absurd (eqb-false (n .number) 0 e (sym (ap (λ (o : OutcomeAt). o .number) (call ∙ opening-refused key header t C out n s (eqb-false (n .number) 0 e))) ∙ z))
 
 -- ---- The log header
 

@@ -4,5 +4,6 @@ pub mod Numbers
 pub mod Lengths
 pub mod AcceptedStrings
 pub mod LogHeaders
+pub mod BadEntries
 pub mod Determined
 pub mod Composes

@@ -1,7 +1,7 @@
 -- `aez::aez_open` meets its contract.
 use mathlib.Core.Path.{ap}
 use borrow.Author.Needs.{needs}
-use Rattle.paper.specs.Document01.{Outcome}
+use Rattle.paper.specs.Document01.{OutcomeAt}
 use Rattle.aez.proofs.aez_open.Statement.{statement}
 use Rattle.aez.proofs.aez_open.Tie as tie
 
@@ -14,7 +14,7 @@ same-length c = search needs
 returns : tie.Need-returns
 returns c =
     let e = c .before .before .«open» .ensures in
-    (ap (λ (o : Outcome). o .number) e, ap (λ (o : Outcome). o .output) e)
+    (ap (λ (o : OutcomeAt). o .number) e, ap (λ (o : OutcomeAt). o .output) e)
 
 pub aez-open-spec : {M : Type 1} → statement M
 aez-open-spec = tie.close (tie.spec open-requires same-length returns)
