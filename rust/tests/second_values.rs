@@ -28,7 +28,11 @@ fn header(strings: &[&[u8]]) -> Vec<u8> {
 }
 
 fn answer(number: u32, length: usize) -> Answer {
-    Answer { number, length }
+    Answer {
+        number,
+        length,
+        place: 0,
+    }
 }
 
 /// Seals into a longer output and hands the sealed string back.
@@ -340,45 +344,50 @@ fn empty_header_strings_count() {
 
 #[test]
 fn headers_that_read() {
-    assert_eq!(read_header(&unhex("010000")), Some(vec![vec![]]));
+    assert_eq!(read_header(&unhex("010000")), Ok(vec![vec![]]));
     assert_eq!(
         read_header(&unhex("0400010100026e37000000026465")),
-        Some(vec![vec![1], b"n7".to_vec(), vec![], b"de".to_vec()])
+        Ok(vec![vec![1], b"n7".to_vec(), vec![], b"de".to_vec()])
     );
     assert_eq!(
         read_header(&unhex("0300010100026e3700026465")),
-        Some(vec![vec![1], b"n7".to_vec(), b"de".to_vec()])
+        Ok(vec![vec![1], b"n7".to_vec(), b"de".to_vec()])
     );
     let long = counting(1024);
     let most: Vec<&[u8]> = vec![&long; 16];
-    assert_eq!(read_header(&header(&most)), Some(vec![long.clone(); 16]));
+    assert_eq!(read_header(&header(&most)), Ok(vec![long.clone(); 16]));
 }
 
+/// Each with the number of the entry that fails.
 #[test]
 fn headers_that_do_not_read() {
-    for bytes in [
-        "",
-        "00",
-        "000000",
-        "01",
-        "0100",
-        "010001",
-        "01000201",
-        "01000000",
-        "020000",
-        "02000000",
-        "0400010100026e370000000264",
-        "0400010100026e3700000002646500",
-        "0400010100026e3700026465",
+    for (bytes, entry) in [
+        ("", 0),
+        ("00", 0),
+        ("000000", 0),
+        ("01", 1),
+        ("0100", 1),
+        ("010001", 1),
+        ("01000201", 1),
+        ("01000000", 17),
+        ("020000", 2),
+        ("02000000", 2),
+        ("0400010100026e370000000264", 4),
+        ("0400010100026e3700000002646500", 17),
+        ("0400010100026e3700026465", 4),
+        ("0400010104012e37", 2),
+        ("1000000000ffff", 3),
     ] {
-        assert_eq!(read_header(&unhex(bytes)), None, "{bytes}");
+        assert_eq!(read_header(&unhex(bytes)), Err(entry), "{bytes}");
     }
     for count in 17..=255 {
         let strings: Vec<&[u8]> = vec![b""; count];
-        assert_eq!(read_header(&header(&strings)), None, "{count}");
+        assert_eq!(read_header(&header(&strings)), Err(0), "{count}");
     }
-    assert_eq!(read_header(&header(&[&counting(1025)])), None);
-    assert_eq!(read_header(&header(&[&counting(65_535)])), None);
+    for length in [1_025, 65_535] {
+        assert_eq!(read_header(&header(&[&counting(length)])), Err(1));
+        assert_eq!(read_header(&header(&[b"", &counting(length)])), Err(2));
+    }
 }
 
 #[test]
@@ -446,6 +455,7 @@ fn log_headers() {
 /// One call's inputs and the refusal it must meet.
 struct Refused {
     number: u32,
+    place: u64,
     key: usize,
     header: Vec<u8>,
     stretch: u64,
@@ -464,7 +474,11 @@ fn refuses(call: Call, case: &Refused) {
         &counting(case.length),
         &mut out,
     );
-    assert_eq!(got, answer(case.number, 0));
+    let expected = Answer {
+        place: case.place,
+        ..answer(case.number, 0)
+    };
+    assert_eq!(got, expected);
     assert!(out.iter().all(|&byte| byte == MARK));
 }
 
@@ -478,6 +492,7 @@ fn refused(
 ) -> Refused {
     Refused {
         number,
+        place: 0,
         key,
         header: header.to_vec(),
         stretch,
@@ -498,9 +513,20 @@ fn refusals_in_common() -> Vec<Refused> {
         cases.push(refused(2, 48, &[], stretch, 70_000, 0));
         cases.push(refused(2, 48, &good, stretch, 32, 100));
     }
-    for bad in [&[] as &[u8], &[0], &[17], &[1, 0, 0, 0], &[1, 4, 1]] {
-        cases.push(refused(3, 48, bad, 64, 70_000, 0));
-        cases.push(refused(3, 48, bad, 16, 32, 100));
+    for (bad, place) in [
+        (&[] as &[u8], 0),
+        (&[0], 0),
+        (&[17], 0),
+        (&[1, 4, 1], 1),
+        (&[2, 0, 0, 0], 2),
+        (&[1, 0, 0, 0], 17),
+    ] {
+        for (stretch, length, out) in [(64, 70_000, 0), (16, 32, 100)] {
+            cases.push(Refused {
+                place,
+                ..refused(3, 48, bad, stretch, length, out)
+            });
+        }
     }
     cases
 }

@@ -1,5 +1,5 @@
 //! Document 01's door: headers, the order of the refusals, and what each call
-//! leaves in its output.
+//! leaves in its output. Requests E2 and E5 are followed where they add to it.
 
 use crate::figure5::{decrypt, encrypt};
 use crate::figure6::Key;
@@ -11,35 +11,59 @@ const SEALED_LIMIT: usize = 65_536;
 /// The longest header string, in bytes.
 const ITEM_LIMIT: usize = 1_024;
 
-/// The answer number of document 01's table, and the length returned with it.
+/// The answer number of document 01's table, and the length returned with it;
+/// beside answer 3 the number of the entry at which the header fails (request E5),
+/// beside every other 0.
 #[derive(Clone, Copy, Debug, PartialEq, Eq)]
 pub struct Answer {
     pub number: u32,
     pub length: usize,
+    pub place: u64,
 }
 
 fn done(length: usize) -> Answer {
-    Answer { number: 0, length }
+    Answer {
+        number: 0,
+        length,
+        place: 0,
+    }
 }
 
 fn refusal(number: u32) -> Answer {
-    Answer { number, length: 0 }
+    Answer {
+        number,
+        length: 0,
+        place: 0,
+    }
+}
+
+fn unreadable(place: u64) -> Answer {
+    Answer {
+        place,
+        ..refusal(3)
+    }
 }
 
 /// The header's strings, the nonce first: a count from 1 to 16, then each
-/// string after its two-byte length, and nothing after the last.
-pub fn read_header(header: &[u8]) -> Option<Vec<Vec<u8>>> {
-    let (&count, mut rest) = header.split_first()?;
+/// string after its two-byte length, and nothing after the last. Otherwise which
+/// entry failed, by request E5: 0 for the count itself, 1 to 16 for a string whose
+/// length bytes are missing, are too large or run past the end, 17 for leftover
+/// bytes after the last string.
+pub fn read_header(header: &[u8]) -> Result<Vec<Vec<u8>>, u64> {
+    let (&count, mut rest) = header.split_first().ok_or(0_u64)?;
     if !(1..=16).contains(&count) {
-        return None;
+        return Err(0);
     }
     let mut strings = Vec::new();
-    for _ in 0..count {
-        let (string, after) = read_string(rest)?;
+    for entry in 1..=u64::from(count) {
+        let (string, after) = read_string(rest).ok_or(entry)?;
         strings.push(string.to_vec());
         rest = after;
     }
-    rest.is_empty().then_some(strings)
+    match rest {
+        [] => Ok(strings),
+        _ => Err(17),
+    }
 }
 
 /// The first string and all that follows it.
@@ -102,7 +126,7 @@ fn read_inputs(
     if stretch > STRETCH_LIMIT {
         return Err(refusal(2));
     }
-    let header = read_header(header).ok_or(refusal(3))?;
+    let header = read_header(header).map_err(unreadable)?;
     Ok((key, header, stretch as usize))
 }
 

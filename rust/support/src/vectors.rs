@@ -143,7 +143,7 @@ fn vector(
     call: impl FnOnce(&mut [u8]) -> Answer,
 ) -> Vector {
     let mut out = vec![0xa5; room];
-    let Answer { number, length } = call(&mut out);
+    let Answer { number, length, .. } = call(&mut out);
     let [a, b, c, d] = strings.map(<[u8]>::len);
     let digits = strings.map(hex).join("\n");
     Vector {

@@ -72,7 +72,7 @@ fn same(
     };
 
     let mut expected = pattern(BESIDE + room + BESIDE);
-    let Answer { number, length } = second(&mut expected[BESIDE..BESIDE + room]);
+    let Answer { number, length, .. } = second(&mut expected[BESIDE..BESIDE + room]);
     assert_eq!(got, (number, length), "answer and length");
     if let Some(place) = (0..whole.len()).find(|&place| whole[place] != expected[place]) {
         panic!(

@@ -57,7 +57,7 @@ fn every_room_for_items_with_and_without_bytes() {
             if built.number == 0 {
                 assert_eq!(built.part().len(), whole);
                 let strings = items.map(<[u8]>::to_vec).to_vec();
-                assert_eq!(read_header(built.part()), Some(strings));
+                assert_eq!(read_header(built.part()), Ok(strings));
             }
         }
     }
