@@ -36,7 +36,8 @@
 //! ```
 //!
 //! [`seal`] and [`open`] are the same calls on a key of any bytes, for which document
-//! 01 has an answer too.
+//! 01 has an answer too. [`read_header`] gives the strings of a header. Where a header
+//! does not read, every call says which of its entries is bad.
 //!
 //! The paper limits the use of one key to 2^48 bytes. No call counts them: that
 //! is the caller's to keep. The static library is for x86-64 Linux.
@@ -46,10 +47,14 @@
 #![deny(missing_docs)]
 #![deny(unsafe_code)]
 
+mod bad_entry;
+mod header;
 mod key;
 mod proved;
 mod refusal;
 
+pub use bad_entry::BadEntry;
+pub use header::{read_header, HeaderStrings};
 pub use key::Key;
 pub use refusal::Refusal;
 
@@ -59,6 +64,9 @@ pub const KEY_LENGTH: usize = 48;
 /// The bytes of the longest sealed string. An output of this length is never
 /// too short, neither for sealing nor for opening.
 pub const LONGEST_SEALED: usize = 65_536;
+
+/// The strings of a header are 1 to 16.
+pub const MOST_STRINGS: usize = 16;
 
 /// The bytes of the longest log header: four items of 1,024 bytes, each after
 /// its length in two bytes, and their count.

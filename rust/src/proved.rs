@@ -5,20 +5,22 @@
 //! whose pointers and lengths are those of Rust slices: a pointer that is not
 //! null, and as many bytes behind it as the length says. It reads its inputs and
 //! reads and writes `out` within these lengths, during the call alone. `out` is
-//! the one `&mut` among them, so no input shares a byte with it.
+//! the one `&mut` among them, so no input shares a byte with it. A number that it
+//! sets, such as `place`, is passed as a pointer to it.
 //!
 //! That the declarations below are the functions that the library exports is
 //! checked by no compiler. Names, order and widths stand in `crates/aez/src/lib.rt`.
 //!
 //! A call returns its number alone. The length of what it wrote is worked out here,
 //! after answer 0 only, by formulas that are theorems: `Lengths.antt` below is
-//! `crates/audit/proofs/Lengths.antt`, and `Numbers.antt` stands beside it.
+//! `crates/audit/proofs/Lengths.antt`, and `Numbers.antt` and `BadEntries.antt` stand
+//! beside it.
 #![allow(unsafe_code)]
 
-use crate::Refusal;
+use crate::{BadEntry, Refusal};
 
 unsafe extern "C" {
-    fn aez_seal(
+    fn aez_seal_at(
         key: *const u8,
         key_len: usize,
         header: *const u8,
@@ -28,9 +30,10 @@ unsafe extern "C" {
         text_len: usize,
         out: *mut u8,
         out_len: usize,
+        place: *mut u64,
     ) -> u32;
 
-    fn aez_open(
+    fn aez_open_at(
         key: *const u8,
         key_len: usize,
         header: *const u8,
@@ -40,6 +43,7 @@ unsafe extern "C" {
         sealed_len: usize,
         out: *mut u8,
         out_len: usize,
+        place: *mut u64,
     ) -> u32;
 
     fn aez_log_header(
@@ -54,6 +58,13 @@ unsafe extern "C" {
         out: *mut u8,
         out_len: usize,
     ) -> u32;
+
+    fn aez_header_read(
+        header: *const u8,
+        header_len: usize,
+        strings: *mut u64,
+        place: *mut u64,
+    ) -> u32;
 }
 
 /// Seals into `out`, and returns the length of the sealed string.
@@ -64,10 +75,11 @@ pub fn seal(
     text: &[u8],
     out: &mut [u8],
 ) -> Result<usize, Refusal> {
+    let mut place = 0;
     // SAFETY: four slices, each passed as its own pointer and length; `out` is
-    // the `&mut`.
+    // the `&mut`. `place` is a number of this function.
     let number = unsafe {
-        aez_seal(
+        aez_seal_at(
             key.as_ptr(),
             key.len(),
             header.as_ptr(),
@@ -77,9 +89,10 @@ pub fn seal(
             text.len(),
             out.as_mut_ptr(),
             out.len(),
+            &mut place,
         )
     };
-    done(number)?;
+    done_at(number, place)?;
     // `sealed-length` in Lengths.antt. The stretch passed test 2 and fits a usize;
     // the sum passed test 6 and does not overflow.
     Ok(text.len() + stretch as usize)
@@ -93,10 +106,11 @@ pub fn open(
     sealed: &[u8],
     out: &mut [u8],
 ) -> Result<usize, Refusal> {
+    let mut place = 0;
     // SAFETY: four slices, each passed as its own pointer and length; `out` is
-    // the `&mut`.
+    // the `&mut`. `place` is a number of this function.
     let number = unsafe {
-        aez_open(
+        aez_open_at(
             key.as_ptr(),
             key.len(),
             header.as_ptr(),
@@ -106,9 +120,10 @@ pub fn open(
             sealed.len(),
             out.as_mut_ptr(),
             out.len(),
+            &mut place,
         )
     };
-    done(number)?;
+    done_at(number, place)?;
     // `opened-length` in Lengths.antt. The stretch passed test 2 and fits a usize;
     // by test 5 it is at most the sealed string's length.
     Ok(sealed.len() - stretch as usize)
@@ -144,14 +159,48 @@ pub fn log_header(
     Ok(1 + (2 + nonce.len()) + (2 + host.len()) + (2 + collector.len()) + (2 + locale.len()))
 }
 
+/// Reads a header, and returns the number of its strings, 1 to 16.
+pub fn header_read(header: &[u8]) -> Result<usize, BadEntry> {
+    let (mut strings, mut place) = (0, 0);
+    // SAFETY: one slice, passed as its pointer and length. `strings` and `place` are
+    // two numbers of this function.
+    let number =
+        unsafe { aez_header_read(header.as_ptr(), header.len(), &mut strings, &mut place) };
+    match number {
+        0 => Ok(strings as usize),
+        // 3: `header-read-number` in Numbers.antt.
+        _ => Err(bad_entry(place)),
+    }
+}
+
+/// The answer number as a type, with the header's bad entry beside 3.
+fn done_at(number: u32, place: u64) -> Result<(), Refusal> {
+    done(number).map_err(|refusal| match refusal {
+        Refusal::HeaderUnreadable(_) => bad_entry(place).into(),
+        refusal => refusal,
+    })
+}
+
+/// The number of a bad entry as a type.
+///
+/// # Panics
+///
+/// Above 17. No such number comes beside answer 3: that is proved in BadEntries.antt,
+/// as `seal-at-place`, `open-at-place` and `header-read-place`.
+fn bad_entry(place: u64) -> BadEntry {
+    let number = u32::try_from(place).ok();
+    let found = number.and_then(BadEntry::from_number);
+    found.unwrap_or_else(|| unreachable!("no entry of a header has the number {place}"))
+}
+
 /// The answer number as a type.
 ///
 /// # Panics
 ///
 /// At a number that document 01 does not have. None comes: that the number of each
 /// call is one of document 01's for it is proved in Numbers.antt, for sealing as
-/// `seal-number` (0, 1, 2, 3, 4 and 6), for opening as `open-number` (0 to 7), for
-/// the builder as `log-header-number` (0, 6 and 8).
+/// `seal-at-number` (0, 1, 2, 3, 4 and 6), for opening as `open-at-number` (0 to 7),
+/// for the builder as `log-header-number` (0, 6 and 8).
 fn done(number: u32) -> Result<(), Refusal> {
     if number == 0 {
         return Ok(());

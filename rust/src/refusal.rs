@@ -3,6 +3,8 @@
 use core::error::Error;
 use core::fmt;
 
+use crate::BadEntry;
+
 /// A refusal: one of document 01's answers 1 to 8.
 ///
 /// A call gives the first that holds, in the order of their numbers; the log
@@ -22,37 +24,43 @@ use core::fmt;
 ///
 /// let error: Box<dyn std::error::Error> = refusal.into();
 /// # assert_eq!(error.to_string(), refusal.to_string());
+///
+/// // A header of one string, cut off in its length.
+/// let refusal = seal(&[0; 48], &[1, 0], 0, b"text", &mut []).unwrap_err();
+/// let Refusal::HeaderUnreadable(entry) = refusal else {
+///     panic!("{refusal}");
+/// };
+/// assert_eq!(entry.number(), 1);
+/// assert_eq!(refusal.to_string(), format!("refusal 3: the header does not read; {entry}"));
 /// ```
 #[derive(Clone, Copy, Debug, PartialEq, Eq, Hash)]
 #[non_exhaustive]
-#[repr(u32)]
 pub enum Refusal {
     /// 1: the key is not 48 bytes long.
-    KeyLength = 1,
+    KeyLength,
     /// 2: the stretch is above 64 bytes.
-    StretchTooLong = 2,
-    /// 3: the header does not read: its count is not 1 to 16, a string is above
-    /// 1,024 bytes or runs past the end, or bytes are left over.
-    HeaderUnreadable = 3,
+    StretchTooLong,
+    /// 3: the header does not read, and this entry of it is the first that is bad.
+    HeaderUnreadable(BadEntry),
     /// 4: text plus stretch, or the sealed string, is above 65,536 bytes.
-    TooLong = 4,
+    TooLong,
     /// 5: opening, the sealed string is shorter than the stretch.
-    ShorterThanStretch = 5,
+    ShorterThanStretch,
     /// 6: the output is shorter than text plus stretch, than the sealed string,
     /// or than the log header.
-    OutputTooShort = 6,
+    OutputTooShort,
     /// 7: opening, the check fails: no text seals to this string.
-    CheckFails = 7,
+    CheckFails,
     /// 8: the log header builder, an item is above 1,024 bytes.
-    ItemTooLong = 8,
+    ItemTooLong,
 }
 
 impl Refusal {
-    /// Every refusal, in the order of the numbers.
+    /// A refusal of every number, in their order; 3 with the count as its bad entry.
     pub const ALL: &'static [Refusal] = &[
         Refusal::KeyLength,
         Refusal::StretchTooLong,
-        Refusal::HeaderUnreadable,
+        Refusal::HeaderUnreadable(BadEntry::Count),
         Refusal::TooLong,
         Refusal::ShorterThanStretch,
         Refusal::OutputTooShort,
@@ -62,15 +70,24 @@ impl Refusal {
 
     /// Document 01's number of it.
     pub const fn number(self) -> u32 {
-        self as u32
+        match self {
+            Refusal::KeyLength => 1,
+            Refusal::StretchTooLong => 2,
+            Refusal::HeaderUnreadable(_) => 3,
+            Refusal::TooLong => 4,
+            Refusal::ShorterThanStretch => 5,
+            Refusal::OutputTooShort => 6,
+            Refusal::CheckFails => 7,
+            Refusal::ItemTooLong => 8,
+        }
     }
 
-    /// What it means, in words.
+    /// What it means, in words. Which entry of a header is bad, the entry says.
     pub const fn meaning(self) -> &'static str {
         match self {
             Refusal::KeyLength => "the key is not 48 bytes long",
             Refusal::StretchTooLong => "the stretch is above 64 bytes",
-            Refusal::HeaderUnreadable => "the header does not read",
+            Refusal::HeaderUnreadable(_) => "the header does not read",
             Refusal::TooLong => "the sealed string is, or would be, above 65,536 bytes",
             Refusal::ShorterThanStretch => "the sealed string is shorter than the stretch",
             Refusal::OutputTooShort => "the output is too short",
@@ -84,7 +101,11 @@ impl Refusal {
 
 impl fmt::Display for Refusal {
     fn fmt(&self, f: &mut fmt::Formatter<'_>) -> fmt::Result {
-        write!(f, "refusal {}: {}", self.number(), self.meaning())
+        write!(f, "refusal {}: {}", self.number(), self.meaning())?;
+        match self {
+            Refusal::HeaderUnreadable(entry) => write!(f, "; {entry}"),
+            _ => Ok(()),
+        }
     }
 }
 

@@ -1,6 +1,6 @@
 //! The safe library against values that are known without it.
 
-use jarrovento::{log_header, open, seal, Key, Refusal};
+use jarrovento::{log_header, open, seal, BadEntry, Key, Refusal};
 use jarrovento::{KEY_LENGTH, LONGEST_LOG_HEADER, LONGEST_SEALED};
 use support::{counting, four_strings, four_values, hex, pattern, unhex};
 
@@ -187,4 +187,16 @@ fn the_limits_are_the_library_s() {
 fn refusals_are_numbered_from_1_to_8() {
     let numbers = Refusal::ALL.iter().map(|refusal| refusal.number());
     assert!(numbers.eq(1..=8));
+}
+
+#[test]
+fn bad_entries_are_numbered_from_0_to_17() {
+    for number in 0..=17 {
+        let entry = BadEntry::from_number(number).unwrap();
+        assert_eq!(entry.number(), number);
+        assert_eq!(Refusal::from(entry).number(), 3);
+    }
+    for number in [18, 256, 1 << 16, u32::MAX] {
+        assert_eq!(BadEntry::from_number(number), None);
+    }
 }

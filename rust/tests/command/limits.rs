@@ -4,7 +4,7 @@ use std::fs::File;
 use std::io::Seek;
 use std::process::{Command, Stdio};
 
-use jarrovento::Refusal;
+use jarrovento::{BadEntry, Refusal};
 use support::{counting, hex};
 
 use crate::{done, fails, file, folder, jarrovento, program, run, words};
@@ -35,7 +35,7 @@ fn files_without_an_end() {
             "--stretch",
             "4",
         ];
-        refused(&header, Refusal::HeaderUnreadable);
+        refused(&header, Refusal::HeaderUnreadable(BadEntry::Count));
     }
 }
 
@@ -129,5 +129,8 @@ fn the_longest_header_file() {
     done(&jarrovento(&words(&header), b"hello"));
     content.push(0);
     let header = file(&folder, "header", &content);
-    refused(&words(&header), Refusal::HeaderUnreadable);
+    refused(
+        &words(&header),
+        Refusal::HeaderUnreadable(BadEntry::LeftOver),
+    );
 }

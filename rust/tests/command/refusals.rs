@@ -3,7 +3,7 @@
 use std::fs;
 use std::path::Path;
 
-use jarrovento::Refusal;
+use jarrovento::{BadEntry, Refusal};
 use support::{counting, hex, unhex};
 
 use crate::{fails, file, folder, jarrovento, words, HELLO};
@@ -33,7 +33,12 @@ fn refusals_of_sealing_and_opening() {
             );
         }
         let bad_header = [command, "--key", &key, "--header", "0000", "--stretch", "4"];
-        refused(&folder, &bad_header, b"hello", Refusal::HeaderUnreadable);
+        refused(
+            &folder,
+            &bad_header,
+            b"hello",
+            Refusal::HeaderUnreadable(BadEntry::Count),
+        );
         refused(
             &folder,
             &words(command, &key, "0", &[]),

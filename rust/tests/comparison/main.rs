@@ -2,7 +2,9 @@
 //! seeds: the answer, the length, and every byte of the output.
 
 mod both;
+mod exports;
 
+mod bad_entries;
 mod damage;
 mod headers;
 mod lengths;
