@@ -9,10 +9,12 @@
  *   - As many bytes as the length says can be read there, and written at `out`.
  *   - No input shares a byte with `out`. Inputs may share bytes among themselves.
  *   - Nothing else writes the inputs, or touches `out`, before the call returns.
+ *   - A pointer to a number that a call sets, `place` or `strings`, points at a
+ *     uint64_t, which shares no byte with anything else that is passed.
  *
  * Everything else a call answers itself, by the numbers below, whatever the
  * bytes, the lengths and the stretch are. No call reads or writes outside its
- * slices, allocates, or keeps a pointer.
+ * slices and the numbers that it sets, allocates, or keeps a pointer.
  *
  * Key: 48 bytes. Header: a count from 1 to 16 in one byte, then that many
  * strings of at most 1,024 bytes, each after its length in two bytes, high byte
@@ -69,6 +71,40 @@ uint32_t aez_open(const uint8_t *key, size_t key_len,
                   uint64_t stretch,
                   const uint8_t *sealed, size_t sealed_len,
                   uint8_t *out, size_t out_len);
+
+/*
+ * aez_seal and aez_open, which also say what is bad in a header: the same answers
+ * and the same bytes in `out`, from the same inputs. *place is set at every return.
+ * Beside answer 3 it is the number of the entry at which the header does not read,
+ * the first if there are several:
+ *     0        the count itself: there are no bytes, or it is 0 or above 16
+ *     1 to 16  the string of this number: its two length bytes are missing, name
+ *              more than 1,024 bytes, or name more than are left
+ *     17       bytes are left over after the last string
+ * Beside every other answer it is 0.
+ */
+uint32_t aez_seal_at(const uint8_t *key, size_t key_len,
+                     const uint8_t *header, size_t header_len,
+                     uint64_t stretch,
+                     const uint8_t *text, size_t text_len,
+                     uint8_t *out, size_t out_len,
+                     uint64_t *place);
+
+uint32_t aez_open_at(const uint8_t *key, size_t key_len,
+                     const uint8_t *header, size_t header_len,
+                     uint64_t stretch,
+                     const uint8_t *sealed, size_t sealed_len,
+                     uint8_t *out, size_t out_len,
+                     uint64_t *place);
+
+/*
+ * Reads a header by itself. After answer 0 *strings is the number of its strings,
+ * 1 to 16, and *place is 0. After answer 3 *strings is 0, and *place the number of
+ * the bad entry, as above.
+ * Answers 0, 3.
+ */
+uint32_t aez_header_read(const uint8_t *header, size_t header_len,
+                         uint64_t *strings, uint64_t *place);
 
 /*
  * Puts the header of a log first in `out`: nonce, host, collector and locale, one
