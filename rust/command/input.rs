@@ -13,7 +13,8 @@ use crate::hex;
 
 /// How many bytes are read. At one byte more than the longest sealed string each
 /// answer is settled: a text or a string of that length is too long, and so is a
-/// header; a key is shorter by far.
+/// header, whose bad entry is met within the bytes of 16 strings or right behind
+/// them; a key is shorter by far.
 const LIMIT: usize = LONGEST_SEALED + 1;
 
 /// A file or standard input, up to the limit.

@@ -43,6 +43,7 @@ fn run(words: &[OsString]) -> Result<(), Failure> {
     match command.to_str() {
         Some("--help") => output::write(None, HELP.as_bytes()),
         Some("header") => header(words),
+        Some("check-header") => check_header(words),
         Some("seal") => seal_or_open(words, Key::seal),
         Some("open") => seal_or_open(words, Key::open),
         Some("demo") => {
@@ -77,6 +78,20 @@ fn header(words: &[OsString]) -> Result<(), Failure> {
     write_result(&arguments, header)
 }
 
+/// A line for each string of a header. Its bytes may have come from anywhere: what a
+/// terminal would not show as it stands is escaped.
+fn check_header(words: &[OsString]) -> Result<(), Failure> {
+    let arguments = Arguments::read(words, &["--header", "--header-file"], &[])?;
+    let header = header_given(&arguments)?;
+    let strings = jarrovento::read_header(&header).map_err(Refusal::from)?;
+    let line = |(string, number): (&&[u8], u32)| {
+        let (length, shown) = (string.len(), string.escape_ascii());
+        format!("string {number}, length {length}: \"{shown}\"\n")
+    };
+    let lines: String = strings.iter().zip(1..).map(line).collect();
+    output::write(None, lines.as_bytes())
+}
+
 /// A key's `seal` or `open`: they take the same inputs.
 type Call = for<'a> fn(&Key, &[u8], u64, &[u8], &'a mut [u8]) -> Result<&'a mut [u8], Refusal>;
 
@@ -90,7 +105,7 @@ fn seal_or_open(words: &[OsString], call: Call) -> Result<(), Failure> {
         "--out",
     ];
     let arguments = Arguments::read(words, &values, &["--hex-in", "--hex-out"])?;
-    let header = header_under(&arguments)?;
+    let header = header_given(&arguments)?;
     let stretch = stretch(&arguments)?;
     let key_file = Input::open(Some(arguments.required("--key")?))?.bytes()?;
     let input = Input::open(arguments.value("--in"))?;
@@ -105,8 +120,8 @@ fn seal_or_open(words: &[OsString], call: Call) -> Result<(), Failure> {
     write_result(&arguments, call(&key, &header, stretch, &input, &mut out)?)
 }
 
-/// The header to seal or open under, from one of its two options.
-fn header_under(arguments: &Arguments) -> Result<Vec<u8>, Failure> {
+/// The header to read, or to seal or open under, from one of its two options.
+fn header_given(arguments: &Arguments) -> Result<Vec<u8>, Failure> {
     match (
         arguments.value("--header"),
         arguments.value("--header-file"),

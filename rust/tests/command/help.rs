@@ -18,7 +18,7 @@ fn help_names_every_refusal() {
         let line = format!("\n  {}  {}", refusal.number(), refusal.meaning());
         assert!(text.contains(&line), "{line}");
     }
-    for command in ["header", "seal", "open", "demo"] {
+    for command in ["header", "check-header", "seal", "open", "demo"] {
         let run = jarrovento(&[command, "--help"], b"");
         done(&run);
         assert_eq!(run.stdout, text.as_bytes());
@@ -36,7 +36,10 @@ fn shown_use(help: &str) -> Vec<(String, String)> {
                 command.push('\n');
                 command.push_str(line);
             }
-            (None, Some((_, output))) => *output += line.trim_start(),
+            (None, Some((_, output))) => {
+                output.push_str(line.trim_start());
+                output.push('\n');
+            }
             (None, None) => unreachable!("the first line is a command"),
         }
     }
@@ -47,7 +50,7 @@ fn shown_use(help: &str) -> Vec<(String, String)> {
 fn the_use_in_the_help_comes_out_as_shown() {
     let help = String::from_utf8(jarrovento(&["--help"], b"").stdout).unwrap();
     let shown = shown_use(&help);
-    assert_eq!(shown.len(), 4);
+    assert_eq!(shown.len(), 6);
     let folder = Path::new(env!("CARGO_BIN_EXE_jarrovento"))
         .parent()
         .unwrap();
@@ -60,7 +63,7 @@ fn the_use_in_the_help_comes_out_as_shown() {
         let run = run(&mut shell, b"");
         assert_eq!(
             String::from_utf8_lossy(&run.stdout).trim_end(),
-            output,
+            output.trim_end(),
             "{command}"
         );
     }

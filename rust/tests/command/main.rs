@@ -1,5 +1,6 @@
 //! The command `jarrovento`, run as a shell runs it.
 
+mod check_header;
 mod headers;
 mod help;
 mod limits;

@@ -11,7 +11,7 @@ fn wrong_command_lines() {
     let key = ["--key", "key"];
     let header = ["--header", HEADER];
     let stretch = ["--stretch", "4"];
-    let cases: [(Vec<&str>, &str); 19] = [
+    let cases: [(Vec<&str>, &str); 22] = [
         (vec![], "no command"),
         (vec!["sale"], "no such command: sale"),
         (vec!["demo", "more"], "no such option here: more"),
@@ -26,6 +26,15 @@ fn wrong_command_lines() {
         (
             vec!["header", "--nonce", "+1", "--host", "n7"],
             "--nonce is not pairs of hex digits",
+        ),
+        (vec!["check-header"], "--header or --header-file is missing"),
+        (
+            vec!["check-header", "--header", "0"],
+            "--header is not pairs of hex digits",
+        ),
+        (
+            vec!["check-header", "--nonce", "01"],
+            "no such option here: --nonce",
         ),
         (
             [&["seal"], &header[..], &stretch].concat(),
@@ -118,6 +127,7 @@ fn files_that_cannot_be_read_or_written() {
             "4",
         ],
         vec!["header", "--nonce", "01", "--host", "n7", "--out", missing],
+        vec!["check-header", "--header-file", missing],
     ] {
         let run = jarrovento(&words, b"hello");
         fails(
@@ -140,6 +150,7 @@ fn standard_output_that_is_full() {
         &["--help"][..],
         &["demo"],
         &["header", "--nonce", "01", "--host", "n7"],
+        &["check-header", "--header", HEADER],
     ] {
         let full = File::options().write(true).open("/dev/full").unwrap();
         let output = program().args(words).stdout(full).output().unwrap();
