@@ -99,6 +99,6 @@ pub extern "C" fn aez_log_header(
 ) -> u32
     ensures { λ r. ⌜ (r ≡ buildingLogHeader (now (nonce .entry)) (now (host .entry)) (now (collector .entry)) (now (locale .entry)) (now (out .entry)) .number) × (now (out .exit) ≡ buildingLogHeader (now (nonce .entry)) (now (host .entry)) (now (collector .entry)) (now (locale .entry)) (now (out .entry)) .output) ⌝ }
 {
-    let answer = header::log_header(nonce, host, collector, locale, out);
+    let answer = builder::log_header(nonce, host, collector, locale, out);
     answer.number
 }

@@ -35,7 +35,7 @@ use Rattle.answer.proofs.StretchBytes.bits.Reads as answer-bits
 use Rattle.header.proofs.entry.Reads as header-entry
 use Rattle.header.proofs.count.Reads as header-count
 use Rattle.header.proofs.read.Reads as header-read
-use Rattle.header.proofs.log_header.Reads as header-log-header
+use Rattle.builder.proofs.log_header.Reads as builder-log-header
 use Rattle.hash.proofs.string_hash.Reads as hash-string-hash
 use Rattle.hash.proofs.delta.Reads as hash-delta
 use Rattle.hash.proofs.prf.Reads as hash-prf
@@ -154,8 +154,8 @@ header-count-determined κs a z w e f p q = one (p .0) (q .0)
 pub header-read-determined : (κs : _) (a : _) (z w : _) (e f : _) → header-read.Learnt κs a z e → header-read.Learnt κs a w f → z ≡ w
 header-read-determined κs a z w e f p q = one p q
 
-pub header-log-header-determined : (κs : _) (a : _) (z w : _) (e f : _) → header-log-header.Learnt κs a z e → header-log-header.Learnt κs a w f → (z ≡ w) × (now (e .1 .1 .1 .1 .0) ≡ now (f .1 .1 .1 .1 .0))
-header-log-header-determined κs a z w e f p q = one-outcome z w (now (e .1 .1 .1 .1 .0)) (now (f .1 .1 .1 .1 .0)) _ p q
+pub builder-log-header-determined : (κs : _) (a : _) (z w : _) (e f : _) → builder-log-header.Learnt κs a z e → builder-log-header.Learnt κs a w f → (z ≡ w) × (now (e .1 .1 .1 .1 .0) ≡ now (f .1 .1 .1 .1 .0))
+builder-log-header-determined κs a z w e f p q = one-outcome z w (now (e .1 .1 .1 .1 .0)) (now (f .1 .1 .1 .1 .0)) _ p q
 
 -- ---- The hash and the prf: `hash`
 

@@ -15,10 +15,10 @@ use Rattle.paper.specs.Document01.{Outcome, done, readHeader, logHeader, buildi
 use Rattle.laws.proofs.Headers.{Fits, log-header-reads, same-items}
 use Rattle.answer.specs.Outcomes.{outcome}
 use Rattle.answer.specs.declared.Answer.{Answer}
-use Rattle.header.specs.Building.{settledAs}
-use Rattle.header.proofs.Items.{items-fit, builds-0}
-use Rattle.header.proofs.Answers.{refuses, accepts}
-use Rattle.header.proofs.log_header.Reads as log-header-contract
+use Rattle.builder.specs.Building.{settledAs}
+use Rattle.builder.proofs.Items.{items-fit, builds-0}
+use Rattle.builder.proofs.Answers.{refuses, accepts}
+use Rattle.builder.proofs.log_header.Reads as log-header-contract
 
 -- a call that was lent these items answered r and left these bytes in the output
 abbrev pub Built : (nonce host collector locale out : Bytes) (r : Answer) (last : Bytes) → Type 0

@@ -6,7 +6,7 @@ use Rattle.paper.specs.Strings.{Bytes, _⊕_}
 use Rattle.paper.specs.Fips197.{sbox, SubBytes, ShiftRows, MixColumns}
 use Rattle.paper.specs.Section7.{_·_, aesenc, rounds, AES}
 use Rattle.paper.specs.Figure6.{Row, minus1, row, Key, k0, k1, k2, K10, masked, hashRow, E, BlockFunction}
-use Rattle.laws.proofs.SBox.{looked, by-table}
+use Rattle.sbox_rule.proofs.SBox.{looked, by-table}
 
 module _ (S : ℕ → ℕ) where
   unfoldable pub roundsBy : List Bytes → Bytes → Bytes

@@ -5,7 +5,7 @@ use Prim.Native.Nat.{ℕ}
 use Rattle.paper.specs.Strings.{Bytes, zip, _⊕_}
 use Rattle.paper.specs.Fips197.{_•_, mulBits, SubBytes, ShiftRows, MixColumns}
 use Rattle.paper.specs.Section7.{aesenc}
-use Rattle.laws.proofs.SBox.{by-table}
+use Rattle.sbox_rule.proofs.SBox.{by-table}
 
 pub product : 0x57 • 0x83 ≡ 0xc1
 unfolding _•_ mulBits

@@ -180,7 +180,7 @@ fn call(v: First, s: &[u8], out: &mut [u8]) -> Answer {
     if v.which == b'o' {
         return without_place(record::open(a, b, StretchBytes(v.stretch), c, out));
     }
-    header::log_header(a, b, c, part(s, 196800, v.d), out)
+    builder::log_header(a, b, c, part(s, 196800, v.d), out)
 }
 
 // Makes the call of a vector, and shows what came of it.

@@ -3,6 +3,7 @@
 -- lists, strings, bits
 pub mod Tables
 pub mod Fronts
+pub mod Placed
 pub mod Counts
 pub mod Xor
 pub mod Strings
@@ -13,7 +14,6 @@ pub mod Bitwise
 pub mod Padding
 pub mod Joins
 -- FIPS 197, section 7, and the block function of Figure 6
-pub mod SBox
 pub mod Multiples
 pub mod Round
 pub mod BlockFunction

@@ -1,6 +1,6 @@
 -- `aes::sboxes` meets its contract: the table is the rule's, computed once over all entries.
 use mathlib.Core.Path.{sym}
-use Rattle.laws.proofs.SBox.{rule}
+use Rattle.sbox_rule.proofs.SBox.{rule}
 use Rattle.aes.proofs.sboxes.Statement.{statement}
 use Rattle.aes.proofs.sboxes.Tie as tie
 

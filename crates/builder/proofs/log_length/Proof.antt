@@ -1,9 +1,9 @@
--- `header::log_length` meets its contract.
+-- `builder::log_length` meets its contract.
 use native.Mathlib.Omega.{arith}
 use borrow.Author.Needs.{needs}
-use Rattle.header.proofs.Items.{log-long}
-use Rattle.header.proofs.log_length.Statement.{statement}
-use Rattle.header.proofs.log_length.Tie as tie
+use Rattle.builder.proofs.Items.{log-long}
+use Rattle.builder.proofs.log_length.Statement.{statement}
+use Rattle.builder.proofs.log_length.Tie as tie
 
 abbrev start : tie.After-room → tie.Start
 start c = c .before .before .before .before .before

@@ -7,7 +7,7 @@ use native.Mathlib.Omega.{arith}
 use lib.ListN.{length, take, drop, set, length-append}
 use lib.Seq.{length-take-le, take-at, drop-at, drop-drop, sets-eq}
 use Rattle.paper.specs.Strings.{Bytes}
-use Rattle.header.specs.Building.{placed}
+use Rattle.laws.specs.Placing.{placed}
 
 -- w right after v is v ++ w
 pub placed-then : (at : ℕ) (v w out : Bytes) → at + length v + length w ≤ length out → placed (at + length v) w (placed at v out) ≡ placed at (v ++ w) out

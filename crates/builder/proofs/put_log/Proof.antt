@@ -1,4 +1,4 @@
--- `header::put_log` meets its contract: the count first, and the four strings after it.
+-- `builder::put_log` meets its contract: the count first, and the four strings after it.
 use mathlib.Core.List.{[], _∷_}
 use mathlib.Core.Path.{_≡_, refl, ap, sym, _∙_}
 use Prim.Native.Nat.{ℕ, _+_, _≤_}
@@ -6,11 +6,11 @@ use native.Mathlib.Omega.{arith}
 use lib.ListN.{length, set, length-set}
 use Rattle.paper.specs.Strings.{Bytes}
 use Rattle.paper.specs.Document01.{writeStrings, logHeader}
-use Rattle.header.specs.Building.{placed}
-use Rattle.header.proofs.Placed.{begun, begun-more}
-use Rattle.header.proofs.Items.{one-long, log-parts, log-long}
-use Rattle.header.proofs.put_log.Statement.{statement}
-use Rattle.header.proofs.put_log.Tie as tie
+use Rattle.laws.specs.Placing.{placed}
+use Rattle.laws.proofs.Placed.{begun, begun-more}
+use Rattle.builder.proofs.Items.{one-long, log-parts, log-long}
+use Rattle.builder.proofs.put_log.Statement.{statement}
+use Rattle.builder.proofs.put_log.Tie as tie
 
 module _ (nonce host collector locale out : Bytes) (fits : length (logHeader nonce host collector locale) ≤ length out) where
   -- the count in front and four strings, each at the place after the one before it, are the header

@@ -1,4 +1,4 @@
--- `header::put` meets its contract: the two length bytes, and the string right after them.
+-- `builder::put` meets its contract: the two length bytes, and the string right after them.
 use mathlib.Core.List.{[], _∷_}
 use mathlib.Core.Path.{_≡_, ap, sym, _∙_}
 use Prim.Native.Nat.{ℕ, _+_, _/_, _%_, _≤_}
@@ -7,11 +7,11 @@ use borrow.Author.Needs.{needs}
 use lib.ListN.{length, set, length-set}
 use Rattle.paper.specs.Strings.{Bytes}
 use Rattle.paper.specs.Document01.{writeStrings}
-use Rattle.header.specs.Building.{placed}
-use Rattle.header.proofs.Placed.{placed-then, stored-two}
-use Rattle.header.proofs.Items.{write-one, one-long}
-use Rattle.header.proofs.put.Statement.{statement}
-use Rattle.header.proofs.put.Tie as tie
+use Rattle.laws.specs.Placing.{placed}
+use Rattle.laws.proofs.Placed.{placed-then, stored-two}
+use Rattle.builder.proofs.Items.{write-one, one-long}
+use Rattle.builder.proofs.put.Statement.{statement}
+use Rattle.builder.proofs.put.Tie as tie
 
 -- the two bytes of its length, and a string after them, are what is written of it
 together : (s out last : Bytes) (at : ℕ) → at + 2 + length s ≤ length out

@@ -8,8 +8,8 @@ use lib.Dec.{ltb}
 use lib.ListN.{length}
 use Rattle.paper.specs.Strings.{Bytes, if_then_else_}
 use Rattle.paper.specs.Document01.{refused, logHeader, buildingLogHeader}
-use Rattle.header.specs.Building.{tooLong, settledAs}
-use Rattle.header.proofs.Items.{builds-8, builds-6}
+use Rattle.builder.specs.Building.{tooLong, settledAs}
+use Rattle.builder.proofs.Items.{builds-8, builds-6}
 
 module _ (nonce host collector locale : Bytes) where
   abbrev long : Bool

@@ -1,4 +1,4 @@
--- `header::settled` meets its contract.
+-- `builder::settled` meets its contract.
 use mathlib.Core.Bool.{Bool, true, false}
 use mathlib.Core.Path.{_≡_, refl, sym, _∙_}
 use native.Mathlib.Omega.{arith}
@@ -8,11 +8,11 @@ use lib.Dec.{ltb}
 use lib.ListN.{length}
 use Rattle.paper.specs.Strings.{Bytes, if_then_else_}
 use Rattle.paper.specs.Document01.{logHeader}
-use Rattle.header.specs.Building.{tooLong, settledAs}
-use Rattle.header.proofs.Items.{items-fit}
-use Rattle.header.proofs.Answers.{settles}
-use Rattle.header.proofs.settled.Statement.{statement}
-use Rattle.header.proofs.settled.Tie as tie
+use Rattle.builder.specs.Building.{tooLong, settledAs}
+use Rattle.builder.proofs.Items.{items-fit}
+use Rattle.builder.proofs.Answers.{settles}
+use Rattle.builder.proofs.settled.Statement.{statement}
+use Rattle.builder.proofs.settled.Tie as tie
 
 abbrev start : tie.After-too-long → tie.Start
 start c = c .before .before .before .before .before

@@ -1,9 +1,8 @@
--- What the builder of the log header answers and writes.
+-- What the builder of the log header answers.
 use mathlib.Core.Bool.{Bool, _||_}
-use mathlib.Core.List.{_++_}
-use Prim.Native.Nat.{ℕ, _+_}
+use Prim.Native.Nat.{ℕ}
 use lib.Dec.{ltb}
-use lib.ListN.{length, take, drop}
+use lib.ListN.{length}
 use Rattle.paper.specs.Strings.{Bytes, if_then_else_}
 use Rattle.paper.specs.Document01.{longestString, logHeader}
 
@@ -16,7 +15,3 @@ tooLong nonce host collector locale =
 unfoldable pub settledAs : Bytes → Bytes → Bytes → Bytes → ℕ → ℕ
 settledAs nonce host collector locale bytes =
     if tooLong nonce host collector locale then 8 else if ltb bytes (length (logHeader nonce host collector locale)) then 6 else 0
-
--- out with w at a place, and every other byte as it was
-abbrev pub placed : ℕ → Bytes → Bytes → Bytes
-placed at w out = take at out ++ w ++ drop (at + length w) out

@@ -1,13 +1,13 @@
--- `header::too_long` meets its contract: each return is one case of the definition.
+-- `builder::too_long` meets its contract: each return is one case of the definition.
 use mathlib.Core.Bool.{true, false}
 use mathlib.Core.Path.{_≡_}
 use Prim.Native.Nat.{_≤_, _<_}
 use borrow.Author.Tests.{lt-ltb, le-ltb}
 use lib.ListN.{length}
 use Rattle.paper.specs.Strings.{Bytes}
-use Rattle.header.specs.Building.{tooLong}
-use Rattle.header.proofs.too_long.Statement.{statement}
-use Rattle.header.proofs.too_long.Tie as tie
+use Rattle.builder.specs.Building.{tooLong}
+use Rattle.builder.proofs.too_long.Statement.{statement}
+use Rattle.builder.proofs.too_long.Tie as tie
 
 module _ (nonce host collector locale : Bytes) where
   first : 1024 < length nonce → true ≡ tooLong nonce host collector locale

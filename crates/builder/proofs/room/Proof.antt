@@ -1,9 +1,9 @@
--- `header::room` meets its contract.
+-- `builder::room` meets its contract.
 use native.Mathlib.Omega.{arith}
 use borrow.Author.Needs.{needs}
-use Rattle.header.proofs.Items.{one-long}
-use Rattle.header.proofs.room.Statement.{statement}
-use Rattle.header.proofs.room.Tie as tie
+use Rattle.builder.proofs.Items.{one-long}
+use Rattle.builder.proofs.room.Statement.{statement}
+use Rattle.builder.proofs.room.Tie as tie
 
 add-result : tie.Need-add-result
 add-result c = search needs

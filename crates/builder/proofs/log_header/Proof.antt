@@ -1,4 +1,4 @@
--- `header::log_header` meets its contract.
+-- `builder::log_header` meets its contract.
 use mathlib.Core.Bool.{Bool, false}
 use mathlib.Core.List.{_++_}
 use mathlib.Core.Path.{_≡_, ap, sym, _∙_}
@@ -9,11 +9,12 @@ use lib.ListN.{length, drop}
 use Rattle.paper.specs.Strings.{Bytes}
 use Rattle.paper.specs.Document01.{logHeader, done}
 use Rattle.answer.specs.Outcomes.{outcome}
-use Rattle.header.specs.Building.{tooLong, placed}
-use Rattle.header.proofs.Items.{items-fit, builds-0}
-use Rattle.header.proofs.Answers.{refuses, accepts}
-use Rattle.header.proofs.log_header.Statement.{statement}
-use Rattle.header.proofs.log_header.Tie as tie
+use Rattle.laws.specs.Placing.{placed}
+use Rattle.builder.specs.Building.{tooLong}
+use Rattle.builder.proofs.Items.{items-fit, builds-0}
+use Rattle.builder.proofs.Answers.{refuses, accepts}
+use Rattle.builder.proofs.log_header.Statement.{statement}
+use Rattle.builder.proofs.log_header.Tie as tie
 
 -- answer 0: the length of what stands first in the output
 wrote : (z n : ℕ) (w out last : Bytes) → z ≡ 0 → n ≡ length w → last ≡ placed 0 w out → outcome (record { number = z; length = n }) last ≡ done (length w) w out

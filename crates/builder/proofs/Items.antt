@@ -10,7 +10,7 @@ use lib.ListN.{length, length-append}
 use Rattle.paper.specs.Strings.{Bytes, digits}
 use Rattle.paper.specs.Document01.{writeStrings, writeHeader, logItems, logHeader, refused, done, buildingLogHeader}
 use Rattle.laws.proofs.Headers.{write-append}
-use Rattle.header.specs.Building.{tooLong}
+use Rattle.builder.specs.Building.{tooLong}
 
 -- ---- Strings
 
