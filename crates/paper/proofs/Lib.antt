@@ -1,2 +1,3 @@
--- A check of the definitions. Nothing that a reader must believe stands here.
+-- Checks of the definitions. Nothing that a reader must believe stands here.
 mod Edges
+mod DayEdges

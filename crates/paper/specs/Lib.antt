@@ -5,3 +5,4 @@ pub mod Section7
 pub mod Figure6
 pub mod Figure5
 pub mod Document01
+pub mod DayFile
