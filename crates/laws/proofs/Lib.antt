@@ -38,3 +38,10 @@ pub mod Sealing
 pub mod Demand3
 pub mod Counting
 pub mod Accepted
+-- the day file
+pub mod DayNumbers
+pub mod DaySteps
+pub mod DayWritten
+pub mod DayReading
+pub mod DayPlaces
+pub mod DayLists

@@ -25,7 +25,7 @@ unfolding same
 same-itself [] = refl
 same-itself (x ∷ X) = ap₂ _&&_ (eq-eqb x x refl) (same-itself X)
 
-and-true : (a b : Bool) → (a && b) ≡ true → (a ≡ true) × (b ≡ true)
+pub and-true : (a b : Bool) → (a && b) ≡ true → (a ≡ true) × (b ≡ true)
 and-true true true e = (refl, refl)
 and-true true false e = (refl, e)
 and-true false b e = (e, absurd (differ e))
