@@ -1,0 +1,7 @@
+mod Bytes
+mod Steps
+mod Sections
+mod Index
+mod Whole
+pub mod Finding
+mod Listing

@@ -1,0 +1,78 @@
+-- `day::length_place` meets its contract. The invariant: the place is that of the length bytes of the header that is next.
+use mathlib.Core.Path.{_≡_, ap, _∙_}
+use Prim.Native.Nat.{ℕ, _+_, _-_, _≤_}
+use native.Mathlib.Omega.{arith}
+use borrow.Author.Needs.{needs}
+use lib.ListN.{length, take, drop}
+use Rattle.paper.specs.Strings.{Bytes, Below}
+use Rattle.paper.specs.DayFile.{value, readDay}
+use Rattle.laws.proofs.Digits.{below-of}
+use Rattle.day.specs.Finds.{lengthPlace}
+use Rattle.day.proofs.Finding.{passed, first-header}
+use Rattle.day.proofs.length_place.Statement.{statement}
+use Rattle.day.proofs.length_place.Tie as tie
+
+abbrev Inv-loop : tie.InvT-loop
+Inv-loop file number at₀ i₀ at i = (i ≤ number) × (at ≡ lengthPlace (readDay file) i)
+
+abbrev μ-loop : tie.MeasureT-loop
+μ-loop file number at₀ i₀ at i = number - i
+
+-- the header that is next lies within the file, and the one after it follows
+module _ (c : tie.In-loop Inv-loop μ-loop) where
+  abbrev known : tie.After-shared-slice-known Inv-loop μ-loop
+  known = c .before .before
+
+  abbrev f : Bytes
+  f = known .before .args .file .now
+
+  abbrev at : ℕ
+  at = c .before .loop .at
+
+  low : Below 256 f
+  low = below-of 256 f (λ i p. omega (arith, known .shared-slice-known .given i))
+
+  step : (at + 2 + value (take 2 (drop at f)) ≤ length f) × (at + 2 + value (take 2 (drop at f)) ≡ lengthPlace (readDay f) (c .before .loop .i + 1))
+  step = passed f low (c .before .loop .i) at (omega (arith, known .before .pre)) (c .before .loop .inv .1)
+
+loop-holds : tie.Need-loop-holds Inv-loop μ-loop
+loop-holds c = (omega arith, first-header (readDay (c .before .args .file .now)))
+
+add-at : tie.Need-add-at Inv-loop μ-loop
+add-at c = omega (arith, step c .0)
+
+two-requires : tie.Need-two-requires Inv-loop μ-loop
+two-requires c κs = omega (arith, step c .0)
+
+add-at-2 : tie.Need-add-at-2 Inv-loop μ-loop
+add-at-2 c = omega (arith, step (c .before) .0, c .two .ensures .0)
+
+add-i : tie.Need-add-i Inv-loop μ-loop
+add-i c = search needs
+
+loop-less : tie.Need-loop-less Inv-loop μ-loop
+loop-less c = search needs
+
+loop-again : tie.Need-loop-again Inv-loop μ-loop
+loop-again c = (omega arith, ap (λ (n : ℕ). at (c .before) + 2 + n) (c .two .ensures .0) ∙ step (c .before) .1)
+
+returns : tie.Need-returns Inv-loop μ-loop
+returns c =
+    let l = c .before .loop in
+    let last : l .i ≡ c .before .before .before .args .number = omega arith in
+    l .inv .1 ∙ ap (lengthPlace (readDay (c .before .before .before .args .file .now))) last
+
+pub length-place-spec : {M : Type 1} → statement M
+length-place-spec =
+    tie.close
+    (tie.spec
+    Inv-loop
+    μ-loop
+    loop-holds
+    add-at
+    two-requires
+    add-at-2
+    add-i
+    loop-less
+    loop-again
+    returns)
