@@ -45,7 +45,7 @@ fn log_length(nonce: &[u8], host: &[u8], collector: &[u8], locale: &[u8]) -> usi
 }
 
 // A string put at a place of out with its length in front, high byte first. The place after it is returned.
-fn put(out: &mut [u8], at: usize, s: &[u8]) -> usize
+pub fn put(out: &mut [u8], at: usize, s: &[u8]) -> usize
     requires { ⌜ at + 2 + length (now s) ≤ length (now out) ⌝ }
     ensures { λ r. ⌜ (r ≡ at + length (writeStrings (now (s .entry) ∷ []))) × (now (out .exit) ≡ placed at (writeStrings (now (s .entry) ∷ [])) (now (out .entry))) ⌝ }
 {

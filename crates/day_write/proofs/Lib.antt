@@ -1,0 +1,4 @@
+mod Walks
+pub mod Settles
+mod Puts
+pub mod Writes
