@@ -1,9 +1,11 @@
 // What other programs link, from C and from Rust: the calls of the crates below, with the names, the order and the widths that stay.
 // There each slice is a pointer and then a length. No function asks anything of its caller.
 use answer::StretchBytes;
+use day::Checked;
 use header::Reading;
 ghost use mathlib.Core.Path.{_≡_};
 ghost use Rattle.paper.specs.Document01.{reading, sealing, opening, told, buildingLogHeader};
+ghost use Rattle.paper.specs.DayFile.{counting, openingRecord, listing, writing};
 
 // Sealing.
 #[no_mangle]
@@ -101,4 +103,73 @@ pub extern "C" fn aez_log_header(
 {
     let answer = builder::log_header(nonce, host, collector, locale, out);
     answer.number
+}
+
+// A day file of headers and sealed strings, each joined, with a list of their lengths, and of the records' header numbers and stretches.
+#[no_mangle]
+pub extern "C" fn aez_day_write(
+    lengths: &[u64],
+    headers: &[u8],
+    numbers: &[u64],
+    stretches: &[u64],
+    sizes: &[u64],
+    sealed: &[u8],
+    out: &mut [u8],
+    size: &mut u64,
+) -> u32
+    ensures { λ r. ⌜ (r ≡ writing (now (lengths .entry)) (now (headers .entry)) (now (numbers .entry)) (now (stretches .entry)) (now (sizes .entry)) (now (sealed .entry)) (now (out .entry)) .number) × (now (size .exit) ≡ writing (now (lengths .entry)) (now (headers .entry)) (now (numbers .entry)) (now (stretches .entry)) (now (sizes .entry)) (now (sealed .entry)) (now (out .entry)) .size) × (now (out .exit) ≡ writing (now (lengths .entry)) (now (headers .entry)) (now (numbers .entry)) (now (stretches .entry)) (now (sizes .entry)) (now (sealed .entry)) (now (out .entry)) .output) ⌝ }
+{
+    let answer = day_write::write(lengths, headers, numbers, stretches, sizes, sealed, out);
+    *size = answer.length as u64;
+    answer.number
+}
+
+// How many records a day file has.
+#[no_mangle]
+pub extern "C" fn aez_day_records(file: &[u8], records: &mut u64) -> u32
+    ensures { λ r. ⌜ (r ≡ counting (now (file .entry)) .number) × (now (records .exit) ≡ counting (now (file .entry)) .records) ⌝ }
+{
+    let Checked::Day {
+        headers: _,
+        records: n,
+        first: _,
+    } = day::check(file)
+    else {
+        *records = 0;
+        return 9;
+    };
+    *records = n as u64;
+    0
+}
+
+// Opening a record of a day file by its number.
+#[no_mangle]
+pub extern "C" fn aez_day_open(
+    key: &[u8],
+    file: &[u8],
+    k: u64,
+    out: &mut [u8],
+    size: &mut u64,
+) -> u32
+    ensures { λ r. ⌜ (r ≡ openingRecord (now (key .entry)) (now (file .entry)) k (now (out .entry)) .number) × (now (size .exit) ≡ openingRecord (now (key .entry)) (now (file .entry)) k (now (out .entry)) .size) × (now (out .exit) ≡ openingRecord (now (key .entry)) (now (file .entry)) k (now (out .entry)) .output) ⌝ }
+{
+    let answer = day_open::open(key, file, k as usize, out);
+    *size = answer.length as u64;
+    answer.number
+}
+
+// Where the headers and the records of a day file stand.
+#[no_mangle]
+pub extern "C" fn aez_day_list(
+    file: &[u8],
+    places: &mut [u64],
+    headers: &mut u64,
+    records: &mut u64,
+) -> u32
+    ensures { λ r. ⌜ (r ≡ listing (now (file .entry)) (now (places .entry)) .number) × (now (headers .exit) ≡ listing (now (file .entry)) (now (places .entry)) .headers) × (now (records .exit) ≡ listing (now (file .entry)) (now (places .entry)) .records) × (now (places .exit) ≡ listing (now (file .entry)) (now (places .entry)) .places) ⌝ }
+{
+    let listed = day::list(file, places);
+    *headers = listed.headers as u64;
+    *records = listed.records as u64;
+    listed.number
 }
