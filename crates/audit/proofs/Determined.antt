@@ -2,7 +2,9 @@
 -- equal, and so are any two contents of the lent buffer at exit. `Learnt` is a function's contract as its callers have it: the checker
 -- makes it from the `ensures` in the source. In each theorem κs are lifetimes, a the arguments, z and w two results, e and f the
 -- parameters at two exits.
+use mathlib.Core.List.{List}
 use mathlib.Core.Path.{_≡_, ap, sym, _∙_}
+use Prim.Native.Nat.{ℕ}
 use denote.Ref.{now, ptr}
 use Rattle.paper.specs.Strings.{Bytes}
 use Rattle.paper.specs.Figure6 as figure6
@@ -10,6 +12,9 @@ use Rattle.paper.specs.Document01.{Outcome, OutcomeAt}
 use Rattle.answer.specs.Outcomes.{outcome, outcomeAt}
 use Rattle.answer.specs.declared.Answer.{Answer}
 use Rattle.answer.specs.declared.AnswerAt.{AnswerAt}
+use Rattle.paper.specs.DayFile.{Listing}
+use Rattle.day.specs.declared.Listed.{Listed}
+use Rattle.day.specs.Lists.{listingAs}
 use Rattle.tbc.specs.declared.Key.{Key}
 use Rattle.tbc.specs.Meaning.{blocks}
 use Rattle.block.proofs.xor.Reads as block-xor
@@ -35,6 +40,7 @@ use Rattle.answer.proofs.StretchBytes.bits.Reads as answer-bits
 use Rattle.header.proofs.entry.Reads as header-entry
 use Rattle.header.proofs.count.Reads as header-count
 use Rattle.header.proofs.read.Reads as header-read
+use Rattle.builder.proofs.put.Reads as builder-put
 use Rattle.builder.proofs.log_header.Reads as builder-log-header
 use Rattle.hash.proofs.string_hash.Reads as hash-string-hash
 use Rattle.hash.proofs.delta.Reads as hash-delta
@@ -47,12 +53,22 @@ use Rattle.cipher.proofs.decrypt.Reads as cipher-decrypt
 use Rattle.record.proofs.seal.Reads as record-seal
 use Rattle.record.proofs.«open».Reads as record-open
 use Rattle.record.proofs.open_part.Reads as record-open-part
+use Rattle.day.proofs.entry_at.Reads as day-entry-at
+use Rattle.day.proofs.check.Reads as day-check
+use Rattle.day.proofs.find.Reads as day-find
+use Rattle.day.proofs.list.Reads as day-list
+use Rattle.day_open.proofs.«open».Reads as day-open
+use Rattle.day_write.proofs.write.Reads as day-write
 use Rattle.aez.proofs.aez_seal.Reads as exported-seal
 use Rattle.aez.proofs.aez_open.Reads as exported-open
 use Rattle.aez.proofs.aez_seal_at.Reads as exported-seal-at
 use Rattle.aez.proofs.aez_open_at.Reads as exported-open-at
 use Rattle.aez.proofs.aez_header_read.Reads as exported-header-read
 use Rattle.aez.proofs.aez_log_header.Reads as exported-log-header
+use Rattle.aez.proofs.aez_day_write.Reads as exported-day-write
+use Rattle.aez.proofs.aez_day_records.Reads as exported-day-records
+use Rattle.aez.proofs.aez_day_open.Reads as exported-day-open
+use Rattle.aez.proofs.aez_day_list.Reads as exported-day-list
 
 -- ---- The general lemmas
 
@@ -70,6 +86,12 @@ one-outcome-at : (z w : AnswerAt) (X Y : Bytes) (o : OutcomeAt) → outcomeAt z 
 one-outcome-at z w X Y o p q =
     let e : outcomeAt z X ≡ outcomeAt w Y = one p q in
     (ap (λ (o : OutcomeAt). record { number = o .number; length = o .size; place = o .place }) e, ap (λ (o : OutcomeAt). o .output) e)
+
+-- the same of a listing
+one-listing : (z w : Listed) (X Y : List ℕ) (o : Listing) → listingAs z X ≡ o → listingAs w Y ≡ o → (z ≡ w) × (X ≡ Y)
+one-listing z w X Y o p q =
+    let e : listingAs z X ≡ listingAs w Y = one p q in
+    (ap (λ (o : Listing). record { number = o .number; headers = o .headers; records = o .records }) e, ap (λ (o : Listing). o .places) e)
 
 -- a key record by its blocks
 one-key : (z w : Key) (k : figure6.Key) → blocks z ≡ k → blocks w ≡ k → z ≡ w
@@ -154,6 +176,9 @@ header-count-determined κs a z w e f p q = one (p .0) (q .0)
 pub header-read-determined : (κs : _) (a : _) (z w : _) (e f : _) → header-read.Learnt κs a z e → header-read.Learnt κs a w f → z ≡ w
 header-read-determined κs a z w e f p q = one p q
 
+pub builder-put-determined : (κs : _) (a : _) (z w : _) (e f : _) → builder-put.Learnt κs a z e → builder-put.Learnt κs a w f → (z ≡ w) × (now (e .0) ≡ now (f .0))
+builder-put-determined κs a z w e f p q = (one (p .0) (q .0), one (p .1) (q .1))
+
 pub builder-log-header-determined : (κs : _) (a : _) (z w : _) (e f : _) → builder-log-header.Learnt κs a z e → builder-log-header.Learnt κs a w f → (z ≡ w) × (now (e .1 .1 .1 .1 .0) ≡ now (f .1 .1 .1 .1 .0))
 builder-log-header-determined κs a z w e f p q = one-outcome z w (now (e .1 .1 .1 .1 .0)) (now (f .1 .1 .1 .1 .0)) _ p q
 
@@ -201,6 +226,26 @@ record-open-determined κs a z w e f p q = one-outcome-at z w (now (e .1 .1 .1 .
 pub record-open-part-determined : (κs : _) (a : _) (z w : _) (e f : _) → record-open-part.Learnt κs a z e → record-open-part.Learnt κs a w f → (ptr z ≡ ptr w) × (now z ≡ now w)
 record-open-part-determined κs a z w e f p q = (one (p .0) (q .0), one (p .1) (q .1))
 
+-- ---- The day file: `day`, `day_open`, `day_write`
+
+pub day-entry-at-determined : (κs : _) (a : _) (z w : _) (e f : _) → day-entry-at.Learnt κs a z e → day-entry-at.Learnt κs a w f → z ≡ w
+day-entry-at-determined κs a z w e f p q = one (p .0) (q .0)
+
+pub day-check-determined : (κs : _) (a : _) (z w : _) (e f : _) → day-check.Learnt κs a z e → day-check.Learnt κs a w f → z ≡ w
+day-check-determined κs a z w e f p q = one p q
+
+pub day-find-determined : (κs : _) (a : _) (z w : _) (e f : _) → day-find.Learnt κs a z e → day-find.Learnt κs a w f → z ≡ w
+day-find-determined κs a z w e f p q = one (p .0) (q .0)
+
+pub day-list-determined : (κs : _) (a : _) (z w : _) (e f : _) → day-list.Learnt κs a z e → day-list.Learnt κs a w f → (z ≡ w) × (now (e .1 .0) ≡ now (f .1 .0))
+day-list-determined κs a z w e f p q = one-listing z w (now (e .1 .0)) (now (f .1 .0)) _ p q
+
+pub day-open-determined : (κs : _) (a : _) (z w : _) (e f : _) → day-open.Learnt κs a z e → day-open.Learnt κs a w f → (z ≡ w) × (now (e .1 .1 .1 .0) ≡ now (f .1 .1 .1 .0))
+day-open-determined κs a z w e f p q = one-outcome z w (now (e .1 .1 .1 .0)) (now (f .1 .1 .1 .0)) _ p q
+
+pub day-write-determined : (κs : _) (a : _) (z w : _) (e f : _) → day-write.Learnt κs a z e → day-write.Learnt κs a w f → (z ≡ w) × (now (e .1 .1 .1 .1 .1 .1 .0) ≡ now (f .1 .1 .1 .1 .1 .1 .0))
+day-write-determined κs a z w e f p q = one-outcome z w (now (e .1 .1 .1 .1 .1 .1 .0)) (now (f .1 .1 .1 .1 .1 .1 .0)) _ p q
+
 -- ---- What other programs link: `aez`
 
 pub exported-seal-determined : (κs : _) (a : _) (z w : _) (e f : _) → exported-seal.Learnt κs a z e → exported-seal.Learnt κs a w f → (z ≡ w) × (now (e .1 .1 .1 .1 .0) ≡ now (f .1 .1 .1 .1 .0))
@@ -223,3 +268,20 @@ exported-header-read-determined κs a z w e f p q = (one (p .0) (q .0), one (p .
 
 pub exported-log-header-determined : (κs : _) (a : _) (z w : _) (e f : _) → exported-log-header.Learnt κs a z e → exported-log-header.Learnt κs a w f → (z ≡ w) × (now (e .1 .1 .1 .1 .0) ≡ now (f .1 .1 .1 .1 .0))
 exported-log-header-determined κs a z w e f p q = (one (p .0) (q .0), one (p .1) (q .1))
+
+-- the number, then the size or the counts that are handed back, and the output
+pub exported-day-write-determined : (κs : _) (a : _) (z w : _) (e f : _) → exported-day-write.Learnt κs a z e → exported-day-write.Learnt κs a w f
+    → (z ≡ w) × (now (e .1 .1 .1 .1 .1 .1 .1 .0) ≡ now (f .1 .1 .1 .1 .1 .1 .1 .0)) × (now (e .1 .1 .1 .1 .1 .1 .0) ≡ now (f .1 .1 .1 .1 .1 .1 .0))
+exported-day-write-determined κs a z w e f p q = (one (p .0) (q .0), one (p .1) (q .1), one (p .2) (q .2))
+
+pub exported-day-records-determined : (κs : _) (a : _) (z w : _) (e f : _) → exported-day-records.Learnt κs a z e → exported-day-records.Learnt κs a w f
+    → (z ≡ w) × (now (e .1 .0) ≡ now (f .1 .0))
+exported-day-records-determined κs a z w e f p q = (one (p .0) (q .0), one (p .1) (q .1))
+
+pub exported-day-open-determined : (κs : _) (a : _) (z w : _) (e f : _) → exported-day-open.Learnt κs a z e → exported-day-open.Learnt κs a w f
+    → (z ≡ w) × (now (e .1 .1 .1 .1 .0) ≡ now (f .1 .1 .1 .1 .0)) × (now (e .1 .1 .1 .0) ≡ now (f .1 .1 .1 .0))
+exported-day-open-determined κs a z w e f p q = (one (p .0) (q .0), one (p .1) (q .1), one (p .2) (q .2))
+
+pub exported-day-list-determined : (κs : _) (a : _) (z w : _) (e f : _) → exported-day-list.Learnt κs a z e → exported-day-list.Learnt κs a w f
+    → (z ≡ w) × (now (e .1 .1 .0) ≡ now (f .1 .1 .0)) × (now (e .1 .1 .1 .0) ≡ now (f .1 .1 .1 .0)) × (now (e .1 .0) ≡ now (f .1 .0))
+exported-day-list-determined κs a z w e f p q = (one (p .0) (q .0), one (p .1) (q .1), one (p .2) (q .2), one (p .3) (q .3))

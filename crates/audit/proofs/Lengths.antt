@@ -3,13 +3,14 @@
 use mathlib.Core.Bool.{Bool, true, false, _||_}
 use mathlib.Core.List.{List, [], _∷_, _++_}
 use mathlib.Core.Path.{_≡_, refl, ap, sym, _∙_}
-use Prim.Native.Nat.{ℕ, _+_, _-_, _≤_}
+use Prim.Native.Nat.{ℕ, _+_, _-_, _*_, _≤_}
 use native.Mathlib.Omega.{arith}
 use borrow.Author.Tests.{eqb-true, eqb-false, ltb-false}
 use lib.Dec.{eqb, ltb}
 use lib.ListN.{length, length-append}
 use Rattle.paper.specs.Strings.{Bytes, Below, if_then_else_, digits}
 use Rattle.paper.specs.Document01.{Outcome, OutcomeAt, refused, done, longestString, writeStrings, writeHeader, logItems, logHeader, buildingLogHeader}
+use Rattle.paper.specs.DayFile.{Record, Day, firstPlace, headerPlaces, recordPlaces, dayPlaces}
 use Rattle.laws.proofs.BitStrings.{length-digits}
 use Rattle.laws.proofs.Demand3 as laws
 use Rattle.laws.proofs.Demand3.{Fixed}
@@ -91,3 +92,22 @@ module _ (nonce host collector locale : Bytes) where
       go true b e z = absurd (omega (arith, z))
       go false true e z = absurd (omega (arith, z))
       go false false e z = (header-length, omega (arith, ltb-false (length out) (length header) e))
+
+-- ---- The list of a day file's places (request E1); the length of a written day file is `file-length` of DayFiles
+
+header-places-length : (at : ℕ) (hs : List Bytes) → length (headerPlaces at hs) ≡ 2 * length hs
+unfolding headerPlaces
+header-places-length at [] = refl
+header-places-length at (h ∷ hs) = omega (arith, header-places-length (at + 2 + length h) hs)
+
+record-places-length : (at : ℕ) (rs : List Record) → length (recordPlaces at rs) ≡ 4 * length rs
+unfolding recordPlaces
+record-places-length at [] = refl
+record-places-length at (r ∷ rs) = omega (arith, record-places-length (at + 7 + length (r .sealed)) rs)
+
+-- two numbers for each header, and four for each record
+pub places-length : (day : Day) → length (dayPlaces day) ≡ 2 * length (day .headers) + 4 * length (day .records)
+unfolding dayPlaces
+places-length day =
+    omega
+    (arith, length-append (headerPlaces 4 (day .headers)) (recordPlaces (firstPlace (day .headers)) (day .records)), header-places-length 4 (day .headers), record-places-length (firstPlace (day .headers)) (day .records))

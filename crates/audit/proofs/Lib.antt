@@ -5,5 +5,6 @@ pub mod Lengths
 pub mod AcceptedStrings
 pub mod LogHeaders
 pub mod BadEntries
+pub mod DayFiles
 pub mod Determined
 pub mod Composes
