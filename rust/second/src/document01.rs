@@ -5,13 +5,13 @@ use crate::figure5::{decrypt, encrypt};
 use crate::figure6::Key;
 
 /// The longest stretch, in bytes.
-const STRETCH_LIMIT: u64 = 64;
+pub(crate) const STRETCH_LIMIT: u64 = 64;
 /// The longest sealed string, in bytes.
 const SEALED_LIMIT: usize = 65_536;
 /// The longest header string, in bytes.
 const ITEM_LIMIT: usize = 1_024;
 
-/// The answer number of document 01's table, and the length returned with it;
+/// The answer number, document 01's or a request's, and the length returned with it;
 /// beside answer 3 the number of the entry at which the header fails (request E5),
 /// beside every other 0.
 #[derive(Clone, Copy, Debug, PartialEq, Eq)]
@@ -21,7 +21,7 @@ pub struct Answer {
     pub place: u64,
 }
 
-fn done(length: usize) -> Answer {
+pub(crate) fn done(length: usize) -> Answer {
     Answer {
         number: 0,
         length,
@@ -29,7 +29,7 @@ fn done(length: usize) -> Answer {
     }
 }
 
-fn refusal(number: u32) -> Answer {
+pub(crate) fn refusal(number: u32) -> Answer {
     Answer {
         number,
         length: 0,
