@@ -110,6 +110,22 @@ impl Key {
     ) -> Result<&'a mut [u8], Refusal> {
         crate::open(&self.0, header, stretch, sealed, out)
     }
+
+    /// Opens a record of a day file under this key, as
+    /// [`open_record`](crate::open_record) does.
+    ///
+    /// # Errors
+    ///
+    /// [`DayUnreadable`](Refusal::DayUnreadable) first, with all of `out` unchanged; then
+    /// those of [`open`](Key::open), in its order.
+    pub fn open_record<'a>(
+        &self,
+        file: &[u8],
+        record: u64,
+        out: &'a mut [u8],
+    ) -> Result<&'a mut [u8], Refusal> {
+        crate::open_record(&self.0, file, record, out)
+    }
 }
 
 impl From<[u8; KEY_LENGTH]> for Key {

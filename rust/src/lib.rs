@@ -39,6 +39,10 @@
 //! 01 has an answer too. [`read_header`] gives the strings of a header. Where a header
 //! does not read, every call says which of its entries is bad.
 //!
+//! A **day file** holds the records of a day with their headers, and an index of them.
+//! [`Day`] reads one, [`DayWriter`] writes one, and [`open_record`] opens a record of it
+//! by its number.
+//!
 //! The paper limits the use of one key to 2^48 bytes. No call counts them: that
 //! is the caller's to keep. The static library is for x86-64 Linux.
 
@@ -48,12 +52,16 @@
 #![deny(unsafe_code)]
 
 mod bad_entry;
+mod day;
+mod day_writer;
 mod header;
 mod key;
 mod proved;
 mod refusal;
 
 pub use bad_entry::BadEntry;
+pub use day::{open_record, Day, Record, Records};
+pub use day_writer::{DayLists, DayWriter};
 pub use header::{read_header, HeaderStrings};
 pub use key::Key;
 pub use refusal::Refusal;
@@ -71,6 +79,10 @@ pub const MOST_STRINGS: usize = 16;
 /// The bytes of the longest log header: four items of 1,024 bytes, each after
 /// its length in two bytes, and their count.
 pub const LONGEST_LOG_HEADER: usize = 1 + 4 * (2 + 1_024);
+
+/// The bytes of the longest day file. An output of this length is never too short
+/// for [`DayWriter::write`].
+pub const LONGEST_DAY: usize = 65_536;
 
 /// Seals `text`, and hands back the part of `out` that holds the sealed string:
 /// its first `text.len() + stretch` bytes. All later bytes are left unchanged.

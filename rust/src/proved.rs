@@ -6,16 +6,19 @@
 //! null, and as many bytes behind it as the length says. It reads its inputs and
 //! reads and writes `out` within these lengths, during the call alone. `out` is
 //! the one `&mut` among them, so no input shares a byte with it. A number that it
-//! sets, such as `place`, is passed as a pointer to it.
+//! sets, such as `place`, is passed as a pointer to it. The calls on a day file are in
+//! `day`.
 //!
 //! That the declarations below are the functions that the library exports is
 //! checked by no compiler. Names, order and widths stand in `crates/aez/src/lib.rt`.
 //!
-//! A call returns its number alone. The length of what it wrote is worked out here,
-//! after answer 0 only, by formulas that are theorems: `Lengths.antt` below is
-//! `crates/audit/proofs/Lengths.antt`, and `Numbers.antt` and `BadEntries.antt` stand
-//! beside it.
+//! Sealing, opening and the log header builder return their number alone. The length
+//! of what they wrote is worked out here, after answer 0 only, by formulas that are
+//! theorems: `Lengths.antt` below is `crates/audit/proofs/Lengths.antt`, and
+//! `Numbers.antt` and `BadEntries.antt` stand beside it.
 #![allow(unsafe_code)]
+
+pub mod day;
 
 use crate::{BadEntry, Refusal};
 
@@ -197,10 +200,12 @@ fn bad_entry(place: u64) -> BadEntry {
 ///
 /// # Panics
 ///
-/// At a number that document 01 does not have. None comes: that the number of each
-/// call is one of document 01's for it is proved in Numbers.antt, for sealing as
+/// At a number that stands for nothing. None comes: that the number of each call is
+/// one of document 01's for it is proved in Numbers.antt, for sealing as
 /// `seal-at-number` (0, 1, 2, 3, 4 and 6), for opening as `open-at-number` (0 to 7),
-/// for the builder as `log-header-number` (0, 6 and 8).
+/// for the builder as `log-header-number` (0, 6 and 8). For the calls on a day file it
+/// is proved there too, as `day-write-number`, `day-records-number`, `day-open-number`
+/// and `day-list-number`: 9 and document 01's.
 fn done(number: u32) -> Result<(), Refusal> {
     if number == 0 {
         return Ok(());
@@ -208,5 +213,5 @@ fn done(number: u32) -> Result<(), Refusal> {
     let found = Refusal::ALL
         .iter()
         .find(|refusal| refusal.number() == number);
-    Err(*found.unwrap_or_else(|| unreachable!("document 01 has no answer {number}")))
+    Err(*found.unwrap_or_else(|| unreachable!("there is no answer {number}")))
 }

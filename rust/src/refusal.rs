@@ -5,10 +5,10 @@ use core::fmt;
 
 use crate::BadEntry;
 
-/// A refusal: one of document 01's answers 1 to 8.
+/// A refusal: one of document 01's answers 1 to 8, or 9 of the day file.
 ///
 /// A call gives the first that holds, in the order of their numbers; the log
-/// header builder tests 8 and then 6.
+/// header builder tests 8 and then 6, and calls on a day file test 9 before the rest.
 ///
 /// Calls that are still to come bring refusals of their own, so a `match` has an
 /// arm for the rest. The numbers that stand here stay as they are.
@@ -42,17 +42,22 @@ pub enum Refusal {
     StretchTooLong,
     /// 3: the header does not read, and this entry of it is the first that is bad.
     HeaderUnreadable(BadEntry),
-    /// 4: text plus stretch, or the sealed string, is above 65,536 bytes.
+    /// 4: text plus stretch, the sealed string, or the day file to be written, is above
+    /// 65,536 bytes.
     TooLong,
     /// 5: opening, the sealed string is shorter than the stretch.
     ShorterThanStretch,
     /// 6: the output is shorter than text plus stretch, than the sealed string,
-    /// or than the log header.
+    /// than the log header, or than the day file or the list of its places.
     OutputTooShort,
     /// 7: opening, the check fails: no text seals to this string.
     CheckFails,
     /// 8: the log header builder, an item is above 1,024 bytes.
     ItemTooLong,
+    /// 9: the day file does not read, names a header that it lacks, or lacks the record
+    /// asked for. Writing: a header, a stretch or a header's number is outside its
+    /// layout, or the lists do not fit each other.
+    DayUnreadable,
 }
 
 impl Refusal {
@@ -66,9 +71,10 @@ impl Refusal {
         Refusal::OutputTooShort,
         Refusal::CheckFails,
         Refusal::ItemTooLong,
+        Refusal::DayUnreadable,
     ];
 
-    /// Document 01's number of it.
+    /// Its number, document 01's or the request's.
     pub const fn number(self) -> u32 {
         match self {
             Refusal::KeyLength => 1,
@@ -79,6 +85,7 @@ impl Refusal {
             Refusal::OutputTooShort => 6,
             Refusal::CheckFails => 7,
             Refusal::ItemTooLong => 8,
+            Refusal::DayUnreadable => 9,
         }
     }
 
@@ -88,13 +95,16 @@ impl Refusal {
             Refusal::KeyLength => "the key is not 48 bytes long",
             Refusal::StretchTooLong => "the stretch is above 64 bytes",
             Refusal::HeaderUnreadable(_) => "the header does not read",
-            Refusal::TooLong => "the sealed string is, or would be, above 65,536 bytes",
+            Refusal::TooLong => "the sealed string or day file is, or would be, above 65,536 bytes",
             Refusal::ShorterThanStretch => "the sealed string is shorter than the stretch",
             Refusal::OutputTooShort => "the output is too short",
             Refusal::CheckFails => {
                 "the check fails: nothing seals to this string under this key, header and stretch"
             }
             Refusal::ItemTooLong => "an item of the log header is above 1,024 bytes",
+            Refusal::DayUnreadable => {
+                "the day file does not read or has no such record, or no such file can be written"
+            }
         }
     }
 }

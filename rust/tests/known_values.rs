@@ -184,9 +184,9 @@ fn the_limits_are_the_library_s() {
 }
 
 #[test]
-fn refusals_are_numbered_from_1_to_8() {
+fn refusals_are_numbered_from_1_to_9() {
     let numbers = Refusal::ALL.iter().map(|refusal| refusal.number());
-    assert!(numbers.eq(1..=8));
+    assert!(numbers.eq(1..=9));
 }
 
 #[test]

@@ -48,6 +48,30 @@ pub fn header<S: AsRef<[u8]>>(strings: &[S]) -> Vec<u8> {
     header
 }
 
+/// A record of a day file: its header's number, its stretch and its sealed string.
+pub type DayRecord = (u16, u8, Vec<u8>);
+
+/// A day file in request E1's layout. Its headers may not read, and its records may
+/// name headers that it lacks, or stretches that are too long.
+pub fn day_file<H: AsRef<[u8]>>(headers: &[H], records: &[DayRecord]) -> Vec<u8> {
+    let count = |length: usize| (length as u32).to_be_bytes();
+    let mut file = count(headers.len()).to_vec();
+    for header in headers.iter().map(AsRef::as_ref) {
+        file.extend((header.len() as u16).to_be_bytes());
+        file.extend_from_slice(header);
+    }
+    file.extend(count(records.len()));
+    let mut index = count(records.len()).to_vec();
+    for (header, stretch, sealed) in records {
+        index.extend(count(file.len()));
+        file.extend(header.to_be_bytes());
+        file.push(*stretch);
+        file.extend(count(sealed.len()));
+        file.extend_from_slice(sealed);
+    }
+    [file, index].concat()
+}
+
 /// A header of four strings: 01, "n7", no bytes, "de".
 pub fn four_strings() -> Vec<u8> {
     header(&[&[1][..], b"n7", b"", b"de"])

@@ -10,7 +10,7 @@ use crate::exports::{self, Inputs};
 const BESIDE: usize = 16;
 
 /// What a number holds before a call that is to set it: no count, and no entry.
-const UNSET: u64 = 99;
+pub const UNSET: u64 = 99;
 
 /// What both programs answered and left in the output.
 pub struct Outcome {
@@ -23,14 +23,14 @@ pub struct Outcome {
 }
 
 impl Outcome {
-    /// The sealed string, the text or the log header; empty after a refusal.
+    /// The sealed string, the text, the log header or the file; empty after a refusal.
     pub fn part(&self) -> &[u8] {
         &self.whole[BESIDE..BESIDE + self.length]
     }
 
     /// Holds a call without a number of the bad entry to this outcome.
     #[track_caller]
-    fn held_by(&self, call: impl FnOnce(&mut [u8]) -> u32) {
+    pub fn held_by(&self, call: impl FnOnce(&mut [u8]) -> u32) {
         let mut whole = pattern(self.whole.len());
         let room = whole.len() - 2 * BESIDE;
         let number = call(&mut whole[BESIDE..BESIDE + room]);
@@ -120,7 +120,7 @@ pub fn read_header(header: &[u8]) -> Result<Vec<Vec<u8>>, u64> {
 /// Calls both, and holds the proved library's answer, length, bad entry and bytes
 /// to those of the second program.
 #[track_caller]
-fn same(
+pub fn same(
     room: usize,
     proved: impl FnOnce(&mut [u8]) -> Result<&mut [u8], Refusal>,
     second: impl FnOnce(&mut [u8]) -> Answer,

@@ -6,6 +6,7 @@ mod exports;
 
 mod bad_entries;
 mod damage;
+mod day;
 mod headers;
 mod lengths;
 mod log_headers;
