@@ -1,9 +1,10 @@
 //! The customer's story, told on the sample: what the header is for, why all of its
-//! items are written, and what the stretch is for. A step that comes out otherwise
-//! than told is a failure.
+//! items are written, what the stretch is for, and what a day file is. A step that
+//! comes out otherwise than told is a failure.
 
 use jarrovento::{log_header, Key, Refusal, LONGEST_LOG_HEADER};
 
+use crate::demo_day;
 use crate::failure::Failure;
 use crate::hex;
 use crate::input;
@@ -21,7 +22,7 @@ struct Headers {
 }
 
 pub fn story() -> Result<String, Failure> {
-    let key = input::key(KEY_FILE)?;
+    let key = input::key(KEY_FILE.to_vec())?;
     let headers = Headers {
         n7: header_of("n7", "", "de")?,
         n8: header_of("n8", "", "en")?,
@@ -30,6 +31,7 @@ pub fn story() -> Result<String, Failure> {
     let stretch_of_4 = with_a_stretch(&key, &headers)?;
     let collector = with_a_collector(&key, &headers)?;
     let stretch_of_0 = without_a_stretch(&key, &headers)?;
+    let day = demo_day::story(&key)?;
     Ok(format!(
         "\
 A pause was logged as \"{RECORD}\" on host n7. Its locale is de, where the comma is
@@ -45,7 +47,8 @@ as its authors hold, it also hides the text from those without the key, and a
 change anywhere, in string or header, scrambles the whole text.
 What it can't promise: that a wrong string or a wrong header is noticed. Every
 string opens to something, and only the reader can tell that it makes no sense.
-"
+
+{day}"
     ))
 }
 
@@ -141,7 +144,7 @@ The same record with a stretch of 0
     ))
 }
 
-fn expect(holds: bool, step: &'static str) -> Result<(), Failure> {
+pub fn expect(holds: bool, step: &'static str) -> Result<(), Failure> {
     if holds {
         Ok(())
     } else {

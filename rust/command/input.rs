@@ -6,7 +6,7 @@ use std::io::{self, Read};
 use std::os::fd::AsFd;
 use std::os::unix::ffi::OsStrExt;
 
-use jarrovento::{Key, Refusal, LONGEST_SEALED};
+use jarrovento::{Key, Refusal, KEY_LENGTH, LONGEST_SEALED};
 
 use crate::failure::Failure;
 use crate::hex;
@@ -14,7 +14,7 @@ use crate::hex;
 /// How many bytes are read. At one byte more than the longest sealed string each
 /// answer is settled: a text or a string of that length is too long, and so is a
 /// header, whose bad entry is met within the bytes of 16 strings or right behind
-/// them; a key is shorter by far.
+/// them; a day file of that length does not read; a key is shorter by far.
 const LIMIT: usize = LONGEST_SEALED + 1;
 
 /// A file or standard input, up to the limit.
@@ -53,6 +53,11 @@ impl Input {
             hex::Trouble::Unreadable(error) => Failure::File(self.name, error),
         })
     }
+
+    /// Its name and itself, for those who know where to stop.
+    pub fn parts(self) -> (OsString, File) {
+        (self.name, self.file)
+    }
 }
 
 /// Without the buffer of `io::Stdin`, which reads beyond what it is asked for.
@@ -60,15 +65,19 @@ fn standard_input() -> io::Result<File> {
     Ok(File::from(io::stdin().as_fd().try_clone_to_owned()?))
 }
 
-/// The key that a key file holds: 48 bytes as they are, or 96 hex digits with
-/// white space anywhere.
-pub fn key(content: &[u8]) -> Result<Key, Refusal> {
-    Key::try_from(content).or_else(|refusal| {
-        // Behind the limit there may be more, which nobody has looked at.
-        let whole = content.len() < LIMIT;
-        let digits = hex::decode(content).filter(|_| whole);
-        Key::try_from(&digits.ok_or(refusal)?[..])
-    })
+/// The key that a key file holds.
+pub fn key(content: Vec<u8>) -> Result<Key, Refusal> {
+    Key::try_from(&key_bytes(content)[..])
+}
+
+/// The bytes of the key that a key file holds: 48 bytes as they are, or 96 hex digits
+/// with white space anywhere. Where it holds no key they are not 48.
+pub fn key_bytes(content: Vec<u8>) -> Vec<u8> {
+    // Behind the limit there may be more, which nobody has looked at.
+    if content.len() == KEY_LENGTH || content.len() == LIMIT {
+        return content;
+    }
+    hex::decode(&content).unwrap_or(content)
 }
 
 /// The bytes of an option whose value is hex digits.

@@ -1,11 +1,15 @@
-//! The command `jarrovento`: log headers, sealing and opening from the shell.
+//! The command `jarrovento`: log headers, sealing, opening and day files from the
+//! shell.
 //! `help.txt` says what it does.
 
 mod arguments;
+mod day;
 mod demo;
+mod demo_day;
 mod failure;
 mod hex;
 mod input;
+mod lines;
 mod output;
 
 use std::env;
@@ -46,6 +50,7 @@ fn run(words: &[OsString]) -> Result<(), Failure> {
         Some("check-header") => check_header(words),
         Some("seal") => seal_or_open(words, Key::seal),
         Some("open") => seal_or_open(words, Key::open),
+        Some("day") => day::run(words),
         Some("demo") => {
             Arguments::read(words, &[], &[])?;
             output::write(None, demo::story()?.as_bytes())
@@ -106,7 +111,7 @@ fn seal_or_open(words: &[OsString], call: Call) -> Result<(), Failure> {
     ];
     let arguments = Arguments::read(words, &values, &["--hex-in", "--hex-out"])?;
     let header = header_given(&arguments)?;
-    let stretch = stretch(&arguments)?;
+    let stretch = arguments.number("--stretch", "a number of bytes")?;
     let key_file = Input::open(Some(arguments.required("--key")?))?.bytes()?;
     let input = Input::open(arguments.value("--in"))?;
     let input = if arguments.flag("--hex-in") {
@@ -115,7 +120,7 @@ fn seal_or_open(words: &[OsString], call: Call) -> Result<(), Failure> {
         input.bytes()?
     };
     // All is read. From here on document 01's tests, in its order: the key first.
-    let key = input::key(&key_file)?;
+    let key = input::key(key_file)?;
     let mut out = vec![0; LONGEST_SEALED];
     write_result(&arguments, call(&key, &header, stretch, &input, &mut out)?)
 }
@@ -131,17 +136,6 @@ fn header_given(arguments: &Arguments) -> Result<Vec<u8>, Failure> {
         (None, None) => Err(Failure::usage("--header or --header-file is missing")),
         (Some(_), Some(_)) => Err(Failure::usage("--header and --header-file are both given")),
     }
-}
-
-fn stretch(arguments: &Arguments) -> Result<u64, Failure> {
-    let number = arguments.required("--stretch")?;
-    let parsed = number.to_str().and_then(|number| number.parse().ok());
-    parsed.ok_or_else(|| {
-        Failure::usage(format!(
-            "--stretch {} is not a number of bytes",
-            number.display()
-        ))
-    })
 }
 
 fn write_result(arguments: &Arguments, result: &[u8]) -> Result<(), Failure> {

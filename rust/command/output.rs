@@ -2,7 +2,7 @@
 
 use std::ffi::OsStr;
 use std::fs::{self, File, Metadata};
-use std::io::{self, Write};
+use std::io::{self, BufWriter, Write};
 use std::os::fd::AsFd;
 use std::os::unix::fs::{fchown, MetadataExt, OpenOptionsExt};
 use std::path::{Path, PathBuf};
@@ -17,6 +17,19 @@ pub fn write(file: Option<&OsStr>, content: &[u8]) -> Result<(), Failure> {
             .map_err(|error| Failure::File("standard output".into(), error));
     };
     to_file(Path::new(name), content).map_err(|error| Failure::File(name.into(), error))
+}
+
+/// Writes lines to standard output, one after the other: all of them together can be
+/// far longer than what they are made from.
+pub fn lines(lines: impl Iterator<Item = String>) -> Result<(), Failure> {
+    let mut out = BufWriter::new(io::stdout().lock());
+    let write = || {
+        for line in lines {
+            writeln!(out, "{line}")?;
+        }
+        out.flush()
+    };
+    write().map_err(|error| Failure::File("standard output".into(), error))
 }
 
 fn to_standard_output(content: &[u8]) -> io::Result<()> {

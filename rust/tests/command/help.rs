@@ -18,8 +18,18 @@ fn help_names_every_refusal() {
         let line = format!("\n  {}  {}", refusal.number(), refusal.meaning());
         assert!(text.contains(&line), "{line}");
     }
-    for command in ["header", "check-header", "seal", "open", "demo"] {
-        let run = jarrovento(&[command, "--help"], b"");
+    for command in [
+        &["header"][..],
+        &["check-header"],
+        &["seal"],
+        &["open"],
+        &["day"],
+        &["day", "list"],
+        &["day", "open"],
+        &["day", "write"],
+        &["demo"],
+    ] {
+        let run = jarrovento(&[command, &["--help"]].concat(), b"");
         done(&run);
         assert_eq!(run.stdout, text.as_bytes());
     }
@@ -50,7 +60,7 @@ fn shown_use(help: &str) -> Vec<(String, String)> {
 fn the_use_in_the_help_comes_out_as_shown() {
     let help = String::from_utf8(jarrovento(&["--help"], b"").stdout).unwrap();
     let shown = shown_use(&help);
-    assert_eq!(shown.len(), 6);
+    assert_eq!(shown.len(), 9);
     let folder = Path::new(env!("CARGO_BIN_EXE_jarrovento"))
         .parent()
         .unwrap();
@@ -106,6 +116,10 @@ fn the_demo_tells_what_the_second_program_gives() {
         format!("  sealed on n7  {}\n", hex(&bare)),
         "  opened on n7  1,204 s\n".to_string(),
         format!("  under n8      {},", hex(&other)),
+        "  record 1, stretch 4, length 10, header \"\\x02\" \"n7\" \"\" \"de\"\n  text          870 ms\n"
+            .to_string(),
+        format!("wrong by one\n  answer        {}\n", Refusal::DayUnreadable),
+        format!("that of host n8\n  answer        {}\n", Refusal::CheckFails),
     ] {
         assert!(story.contains(&line), "{line}");
     }

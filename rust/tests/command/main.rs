@@ -1,6 +1,8 @@
 //! The command `jarrovento`, run as a shell runs it.
 
 mod check_header;
+mod day;
+mod day_lines;
 mod headers;
 mod help;
 mod limits;
@@ -20,6 +22,10 @@ const HEADER: &str = "0400010100026e37000000026465";
 
 /// "hello" under the key 00 01 .. 2f, that header and a stretch of 16.
 const HELLO: &str = "e3600052f6f4be16f514d7f4fee221ddcf4d71fd5d";
+
+/// The sample's key and day file.
+const SAMPLE_KEY: &str = concat!(env!("CARGO_MANIFEST_DIR"), "/sample/not-secret.key");
+const SAMPLE_DAY: &str = concat!(env!("CARGO_MANIFEST_DIR"), "/sample/pauses.day");
 
 struct Run {
     status: i32,

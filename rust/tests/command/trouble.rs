@@ -1,17 +1,18 @@
 //! Command lines that are wrong, input that is not hex, and files in trouble.
 
 use std::fs::File;
+use std::process::Stdio;
 
 use support::counting;
 
-use crate::{fails, file, folder, jarrovento, program, words, HEADER};
+use crate::{fails, file, folder, jarrovento, program, words, HEADER, SAMPLE_DAY};
 
 #[test]
 fn wrong_command_lines() {
     let key = ["--key", "key"];
     let header = ["--header", HEADER];
     let stretch = ["--stretch", "4"];
-    let cases: [(Vec<&str>, &str); 22] = [
+    let cases: [(Vec<&str>, &str); 34] = [
         (vec![], "no command"),
         (vec!["sale"], "no such command: sale"),
         (vec!["demo", "more"], "no such option here: more"),
@@ -86,6 +87,39 @@ fn wrong_command_lines() {
             [&["seal"], &key[..], &header, &["--stretch", ""]].concat(),
             "--stretch  is not a number of bytes",
         ),
+        (vec!["day"], "no command after day"),
+        (vec!["day", "close"], "no such command: day close"),
+        (vec!["day", "list"], "the file is missing"),
+        (
+            vec!["day", "list", "one", "two"],
+            "a second file is given: two",
+        ),
+        (
+            vec!["day", "list", "file", "--key", "key"],
+            "no such option here: --key",
+        ),
+        (
+            vec!["day", "open", "file", "--key", "key"],
+            "--record is missing",
+        ),
+        (
+            vec!["day", "open", "file", "--record", "0"],
+            "--key is missing",
+        ),
+        (
+            vec!["day", "open", "--record", "0", "--key", "key"],
+            "the file is missing",
+        ),
+        (
+            vec!["day", "open", "file", "--record", "-1", "--key", "key"],
+            "--record -1 is not the number of a record",
+        ),
+        (
+            vec!["day", "open", "file", "--record", "18446744073709551616"],
+            "--record 18446744073709551616 is not the number of a record",
+        ),
+        (vec!["day", "write", "file"], "no such option here: file"),
+        (vec!["day", "write", "--in"], "--in has no value after it"),
     ];
     for (words, message) in cases {
         fails(
@@ -128,6 +162,10 @@ fn files_that_cannot_be_read_or_written() {
         ],
         vec!["header", "--nonce", "01", "--host", "n7", "--out", missing],
         vec!["check-header", "--header-file", missing],
+        vec!["day", "list", missing],
+        vec!["day", "open", missing, "--record", "0", "--key", &key],
+        vec!["day", "open", &key, "--record", "0", "--key", missing],
+        vec!["day", "write", "--in", missing],
     ] {
         let run = jarrovento(&words, b"hello");
         fails(
@@ -136,12 +174,17 @@ fn files_that_cannot_be_read_or_written() {
             &format!("{missing}: No such file or directory (os error 2)"),
         );
     }
-    let run = jarrovento(&words("open", &key, "0", &["--in", is_a_folder]), b"");
-    fails(
-        &run,
-        74,
-        &format!("{is_a_folder}: Is a directory (os error 21)"),
-    );
+    for words in [
+        words("open", &key, "0", &["--in", is_a_folder]),
+        vec!["day", "list", is_a_folder],
+        vec!["day", "write", "--in", is_a_folder],
+    ] {
+        fails(
+            &jarrovento(&words, b""),
+            74,
+            &format!("{is_a_folder}: Is a directory (os error 21)"),
+        );
+    }
 }
 
 #[test]
@@ -151,9 +194,17 @@ fn standard_output_that_is_full() {
         &["demo"],
         &["header", "--nonce", "01", "--host", "n7"],
         &["check-header", "--header", HEADER],
+        &["day", "write"],
+        &["day", "list", SAMPLE_DAY],
+        &["day", "list", SAMPLE_DAY, "--hex-out"],
     ] {
         let full = File::options().write(true).open("/dev/full").unwrap();
-        let output = program().args(words).stdout(full).output().unwrap();
+        let output = program()
+            .args(words)
+            .stdin(Stdio::null())
+            .stdout(full)
+            .output()
+            .unwrap();
         assert_eq!(output.status.code(), Some(74));
         let message = String::from_utf8(output.stderr).unwrap();
         assert!(
