@@ -2,15 +2,21 @@
  * Seals and opens log records with AEZ: the functions of libaez.a, which
  * `rt staticlib aez` proves and builds (target/staticlib/libaez.a, for x86-64).
  *
- * A slice is a pointer and then its length in bytes. Of the caller is asked:
+ * A slice is a pointer and then its length in bytes, or, where it points at
+ * uint64_t, in numbers. Of the caller is asked:
  *
  *   - No pointer is null, also where the length is 0. With a length of 0 it may
- *     point anywhere else: nothing is read or written there.
- *   - As many bytes as the length says can be read there, and written at `out`.
- *   - No input shares a byte with `out`. Inputs may share bytes among themselves.
- *   - Nothing else writes the inputs, or touches `out`, before the call returns.
- *   - A pointer to a number that a call sets, `place` or `strings`, points at a
- *     uint64_t, which shares no byte with anything else that is passed.
+ *     point anywhere else: nothing is read or written there. One to uint64_t is
+ *     aligned for it, also then.
+ *   - As many bytes, or numbers, as the length says can be read there, and written
+ *     at `out` and at `places`.
+ *   - No input shares a byte with `out` or `places`. Inputs may share bytes among
+ *     themselves.
+ *   - Nothing else writes the inputs, or touches `out` or `places`, before the call
+ *     returns.
+ *   - A pointer to a number that a call sets (`place`, `strings`, `size`, `headers`
+ *     or `records` as a uint64_t *) points at a uint64_t, which shares no byte with
+ *     anything else that is passed.
  *
  * Everything else a call answers itself, by the numbers below, whatever the
  * bytes, the lengths and the stretch are. No call reads or writes outside its
@@ -20,6 +26,13 @@
  * strings of at most 1,024 bytes, each after its length in two bytes, high byte
  * first; the first is the nonce. Stretch: 0 to 64, the bytes that a sealed string
  * is longer than its text. A sealed string has at most 65,536 bytes.
+ *
+ * Day file: at most 65,536 bytes, in three sections, each after its count in four
+ * bytes; every number in it has its high byte first. The headers, each after its
+ * length in two bytes. The records, each as the number of its header, from 0, in two
+ * bytes, its stretch in one, the length of its sealed string in four, and the sealed
+ * string. The index, for each record the place of its first byte, counted from the
+ * start of the file, in four bytes. Nothing follows.
  *
  * The AEZ paper limits the use of one key to 2^48 bytes. No call counts them.
  */
@@ -35,19 +48,21 @@ extern "C" {
 
 /*
  * The answers, in the order in which they are tested, but for the log header
- * builder, which tests 8 and then 6. After answers 1 to 6 and 8 all of `out` is
- * unchanged. After every answer so are its bytes behind those that are written.
+ * builder, which tests 8 and then 6, and for the calls on a day file, which test 9
+ * before all others. After answers 1 to 6, 8 and 9 all of `out`, or `places`, is
+ * unchanged. After every answer so is what stands behind that which is written.
  */
 enum {
     AEZ_DONE = 0,
     AEZ_KEY_LENGTH = 1,           /* the key is not 48 bytes long */
     AEZ_STRETCH_TOO_LONG = 2,     /* the stretch is above 64 bytes */
     AEZ_HEADER_UNREADABLE = 3,    /* the header does not read */
-    AEZ_TOO_LONG = 4,             /* the sealed string is, or would be, above 65,536 bytes */
+    AEZ_TOO_LONG = 4,             /* sealed string or day file: it is, or would be, above 65,536 bytes */
     AEZ_SHORTER_THAN_STRETCH = 5, /* opening: the sealed string is shorter than the stretch */
-    AEZ_OUTPUT_TOO_SHORT = 6,     /* `out` is too short */
+    AEZ_OUTPUT_TOO_SHORT = 6,     /* `out` or `places` is too short */
     AEZ_CHECK_FAILS = 7,          /* opening: nothing seals to this string */
-    AEZ_ITEM_TOO_LONG = 8         /* log header: an item is above 1,024 bytes */
+    AEZ_ITEM_TOO_LONG = 8,        /* log header: an item is above 1,024 bytes */
+    AEZ_DAY_UNREADABLE = 9        /* the day file does not read, lacks the record, or can't be written */
 };
 
 /*
@@ -118,6 +133,67 @@ uint32_t aez_log_header(const uint8_t *nonce, size_t nonce_len,
                         const uint8_t *collector, size_t collector_len,
                         const uint8_t *locale, size_t locale_len,
                         uint8_t *out, size_t out_len);
+
+/*
+ * Puts a day file first in `out`. `headers` are the headers joined, and
+ * `header_lengths` the length of each. `sealed` are the sealed strings joined, and
+ * `record_lengths` the length of each; beside them, for each record,
+ * `record_headers` is the number of its header, from 0, and `record_stretches` its
+ * stretch. Answer 9: a header does not read; a stretch is above 64; a header's number
+ * is above 65,535, or there is no such header; the three lists for the records
+ * differ in length; the lengths do not sum to the joined bytes. The numbers may be
+ * any: no sum of them wraps. Then 4, the file would be above 65,536 bytes, and 6.
+ * After answer 0 *size is the length of the file, and after every other 0.
+ * Answers 0, 9, 4, 6.
+ */
+uint32_t aez_day_write(const uint64_t *header_lengths, size_t header_lengths_len,
+                       const uint8_t *headers, size_t headers_len,
+                       const uint64_t *record_headers, size_t record_headers_len,
+                       const uint64_t *record_stretches, size_t record_stretches_len,
+                       const uint64_t *record_lengths, size_t record_lengths_len,
+                       const uint8_t *sealed, size_t sealed_len,
+                       uint8_t *out, size_t out_len,
+                       uint64_t *size);
+
+/*
+ * Reads a day file. After answer 0 *records is the number of its records, and after
+ * answer 9 it is 0. The file reads only if it is exactly as above: each header
+ * reads, each record names a header that is there and has a stretch of at most 64,
+ * and each entry of the index is the place of its record. A sealed string may be
+ * shorter than its stretch.
+ * Answers 0, 9.
+ */
+uint32_t aez_day_records(const uint8_t *file, size_t file_len,
+                         uint64_t *records);
+
+/*
+ * Opens the record of this number, from 0. Answer 9: the file does not read, or has
+ * no such record. Then it is aez_open with the record's header, stretch and sealed
+ * string: the same answer and the same bytes in `out`. After answer 0 *size is the
+ * length of the text, and after every other 0.
+ * Answers 0, 9, 1, 5, 6, 7. In a file that reads no record has a stretch above 64, a
+ * header that does not read, or a sealed string above 65,536 bytes.
+ */
+uint32_t aez_day_open(const uint8_t *key, size_t key_len,
+                      const uint8_t *file, size_t file_len,
+                      uint64_t record,
+                      uint8_t *out, size_t out_len,
+                      uint64_t *size);
+
+/*
+ * Reads a day file once, and says where everything stands in it. With H headers and
+ * R records `places` has at least 2 * H + 4 * R numbers, or the answer is 6; file_len
+ * / 2 are always enough. After answer 0 *headers is H, *records is R, and first in
+ * `places` stand
+ *     for header n, at 2 * n:          its start in the file, and its end
+ *     for record k, at 2 * H + 4 * k:  the number of its header, its stretch, the
+ *                                      start of its sealed string, and its end
+ * An end is the place behind the last byte. After 9 and 6 *headers and *records are 0.
+ * Answers 0, 9, 6.
+ */
+uint32_t aez_day_list(const uint8_t *file, size_t file_len,
+                      uint64_t *places, size_t places_len,
+                      uint64_t *headers, uint64_t *records);
 
 #ifdef __cplusplus
 }

@@ -20,6 +20,45 @@ static void print_place(const char *call, uint32_t answer, uint64_t place)
     printf("%s %u at %u\n", call, (unsigned)answer, (unsigned)place);
 }
 
+/* A day file of two records, written, read, listed and opened. */
+static void day(const uint8_t *key)
+{
+    static const uint8_t headers[] = {1, 0, 0, 1, 0, 1, 7};
+    static const uint64_t header_lengths[] = {3, 4};
+    static const uint64_t record_headers[] = {1, 0}, record_stretches[] = {4, 0};
+    static const uint64_t record_lengths[] = {9, 0}, wrong_lengths[] = {10, UINT64_MAX};
+    uint8_t sealed[9], file[60], opened[9];
+    uint64_t places[12], size = 99, in_file = 99, records = 99;
+    uint32_t answer;
+    size_t i;
+
+    aez_seal(key, 48, headers + 3, 4, 4, (const uint8_t *)"hello", 5, sealed, 9);
+    answer = aez_day_write(header_lengths, 2, headers, 7, record_headers, 2, record_stretches, 2,
+                           record_lengths, 2, sealed, 9, file, sizeof file, &size);
+    print("day_write", answer, file, (size_t)size);
+    answer = aez_day_records(file, (size_t)size, &records);
+    printf("day_records %u: %u\n", (unsigned)answer, (unsigned)records);
+    answer = aez_day_list(file, (size_t)size, places, 12, &in_file, &records);
+    printf("day_list %u: %u %u:", (unsigned)answer, (unsigned)in_file, (unsigned)records);
+    for (i = 0; i < 12; i++)
+        printf(" %u", (unsigned)places[i]);
+    printf("\n");
+    answer = aez_day_list(file, (size_t)size, places, 11, &in_file, &records);
+    printf("day_list %u: %u %u\n", (unsigned)answer, (unsigned)in_file, (unsigned)records);
+    answer = aez_day_open(key, 48, file, (size_t)size, 0, opened, 9, &records);
+    print("day_open", answer, opened, 9);
+    printf("%u bytes\n", (unsigned)records);
+    answer = aez_day_open(key, 48, file, (size_t)size, 2, opened, 9, &records);
+    printf("day_open %u: %u bytes\n", (unsigned)answer, (unsigned)records);
+    records = 99;
+    answer = aez_day_records(file, (size_t)size - 1, &records);
+    printf("day_records %u: %u\n", answer == AEZ_DAY_UNREADABLE ? (unsigned)answer : 99,
+           (unsigned)records);
+    answer = aez_day_write(header_lengths, 2, headers, 7, record_headers, 2, record_stretches, 2,
+                           wrong_lengths, 2, sealed, 9, file, sizeof file, &size);
+    printf("day_write %u: %u bytes\n", (unsigned)answer, (unsigned)size);
+}
+
 int main(void)
 {
     static const uint8_t header[] = {4, 0, 1, 1, 0, 2, 'n', '7', 0, 0, 0, 2, 'd', 'e'};
@@ -70,5 +109,6 @@ int main(void)
     print("seal", answer == AEZ_STRETCH_TOO_LONG ? answer : 99, opened, 0);
     answer = aez_log_header(nonce, 1, host, 2, none, 0, locale, 2, built, 13);
     print("log_header", answer == AEZ_OUTPUT_TOO_SHORT ? answer : 99, built, 0);
+    day(key);
     return 0;
 }

@@ -4,6 +4,9 @@
 use std::path::Path;
 use std::process::Command;
 
+use second::document01;
+use support::{counting, hex};
+
 #[test]
 fn a_c_program_links_the_library() {
     let package = Path::new(env!("CARGO_MANIFEST_DIR"));
@@ -43,5 +46,28 @@ open 7 000000000000000000000000000000000000000000
 seal 2 
 log_header 6 
 ";
+    let expected = format!("{expected}{}", day());
     assert_eq!(String::from_utf8_lossy(&run.stdout), expected);
+}
+
+/// The part on day files. "hello" under the header of one string 07 is sealed by the
+/// second program here.
+fn day() -> String {
+    let mut sealed = [0; 9];
+    document01::seal(&counting(48), &[1, 0, 1, 7], 4, b"hello", &mut sealed);
+    let sealed = hex(&sealed);
+    format!(
+        "\
+day_write 0 0000000200030100000004010001070000000200010400000009{sealed}\
+00000000000000000000020000001300000023
+day_records 0: 2
+day_list 0: 2 2: 6 9 11 15 1 4 26 35 0 0 42 42
+day_list 6: 0 0
+day_open 0 68656c6c6f00000000
+5 bytes
+day_open 9: 0 bytes
+day_records 9: 0
+day_write 9: 0 bytes
+"
+    )
 }
