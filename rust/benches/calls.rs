@@ -1,10 +1,12 @@
 //! How long a call takes: the proved library beside the second program, and
-//! beside software AES-128-CTR of BearSSL on as many bytes of text. Prints a
-//! table in Markdown. It needs Debian's libbearssl-dev:
+//! beside software AES-128-CTR of BearSSL on as many bytes of text; and reading a
+//! day file beside a copy of it. Prints tables in Markdown. It needs Debian's
+//! libbearssl-dev:
 //!
 //!     cargo bench --features bearssl
 
 mod bearssl;
+mod days;
 
 use std::hint::black_box;
 use std::time::{Duration, Instant};
@@ -40,6 +42,8 @@ fn main() {
     for (length, best) in LENGTHS.into_iter().zip(best_of(LENGTHS.map(contenders))) {
         print_lines(length, best);
     }
+    println!();
+    days::print();
 }
 
 /// The table's two lines for texts of this length.
