@@ -41,7 +41,8 @@
 //!
 //! A **day file** holds the records of a day with their headers, and an index of them.
 //! [`Day`] reads one, [`DayWriter`] writes one, and [`open_record`] opens a record of it
-//! by its number.
+//! by its number. A `DayWriter` keeps what it is given in collections of the caller's
+//! choice.
 //!
 //! The paper limits the use of one key to 2^48 bytes. No call counts them: that
 //! is the caller's to keep. The static library is for x86-64 Linux.
