@@ -37,7 +37,7 @@ pub pairs-of : (m : ℕ) (f g : ℕ → Bytes) (N R : Bytes) → UpTo m (λ i. B
 pairs-of m f g N R p q e i a b =
     let pair : take 32 (drop (32 * (i - 1)) N) ≡ f i ++ g i =
     ap (λ (l : Bytes). take 32 (drop (32 * (i - 1)) l)) e
-    ∙ join-at m i (λ j. f j ++ g j) R (λ j c d. length-append (f j) (g j) ∙ omega (arith, p j c d .len, q j c d .len)) a b in
+    ∙ join-at 32 m i (λ j. f j ++ g j) R (λ j c d. length-append (f j) (g j) ∙ omega (arith, p j c d .len, q j c d .len)) a b in
     let both = two-blocks (drop (32 * (i - 1)) N) (f i) (g i) (p i a b .len) (q i a b .len) pair in
     (both .0, ap (take 16) (sym (drop-drop 16 (32 * (i - 1)) N)) ∙ both .1)
 

@@ -47,34 +47,35 @@ join-bytes w (suc m) f h =
 pub join-digits : (m : ℕ) (f : ℕ → Bytes) → UpTo m (λ i. Digits 8 32 (f i)) → Digits 8 (32 * m) (join m f)
 join-digits m f h = join-bytes 32 m f h
 
--- strings of 32 entries joined: how long that is
-join-long : (m : ℕ) (f : ℕ → Bytes) → UpTo m (λ i. length (f i) ≡ 32) → length (join m f) ≡ 32 * m
+-- strings of w entries joined: how long that is
+pub join-long : (w m : ℕ) (f : ℕ → Bytes) → UpTo m (λ i. length (f i) ≡ w) → length (join m f) ≡ w * m
 unfolding join
-join-long zero f h = refl
-join-long (suc m) f h =
+join-long w zero f h = omega arith
+join-long w (suc m) f h =
     length-append (join m f) (f (suc m))
-    ∙ omega (arith, join-long m f (fewer m (λ i. length (f i) ≡ 32) h), last m (λ i. length (f i) ≡ 32) h)
+    ∙ ap₂ _+_ (join-long w m f (fewer m (λ i. length (f i) ≡ w) h)) (last m (λ i. length (f i) ≡ w) h)
+    ∙ sym (mul-suc w m)
 
 -- the i-th of them
-pub join-at : (m i : ℕ) (f : ℕ → Bytes) (R : Bytes) → UpTo m (λ i. length (f i) ≡ 32) → 1 ≤ i → i ≤ m
-    → take 32 (drop (32 * (i - 1)) (join m f ++ R)) ≡ f i
+pub join-at : (w m i : ℕ) (f : ℕ → Bytes) (R : Bytes) → UpTo m (λ i. length (f i) ≡ w) → 1 ≤ i → i ≤ m
+    → take w (drop (w * (i - 1)) (join m f ++ R)) ≡ f i
 unfolding join
-join-at zero i f R h a b = absurd (omega arith)
-join-at (suc m) i f R h a b = go (decLe i m) (λ c. join-at m i f (f (suc m) ++ R) before a c)
+join-at w zero i f R h a b = absurd (omega arith)
+join-at w (suc m) i f R h a b = go (decLe i m) (λ c. join-at w m i f (f (suc m) ++ R) before a c)
   where
-    before : UpTo m (λ i. length (f i) ≡ 32)
-    before = fewer m (λ i. length (f i) ≡ 32) h
+    before : UpTo m (λ i. length (f i) ≡ w)
+    before = fewer m (λ i. length (f i) ≡ w) h
 
-    go : Dec (i ≤ m) → (i ≤ m → take 32 (drop (32 * (i - 1)) (join m f ++ (f (suc m) ++ R))) ≡ f i)
-        → take 32 (drop (32 * (i - 1)) ((join m f ++ f (suc m)) ++ R)) ≡ f i
-    go (yes c) ih = ap (λ (l : Bytes). take 32 (drop (32 * (i - 1)) l)) (append-assoc (join m f) (f (suc m)) R) ∙ ih c
+    go : Dec (i ≤ m) → (i ≤ m → take w (drop (w * (i - 1)) (join m f ++ (f (suc m) ++ R))) ≡ f i)
+        → take w (drop (w * (i - 1)) ((join m f ++ f (suc m)) ++ R)) ≡ f i
+    go (yes c) ih = ap (λ (l : Bytes). take w (drop (w * (i - 1)) l)) (append-assoc (join m f) (f (suc m)) R) ∙ ih c
     go (no c) ih =
         let e : suc m ≡ i = omega (arith, c) in
-        let at : 32 * m ≡ 32 * (i - 1) = omega arith in
-        let long : length (join m f) ≡ 32 * (i - 1) = join-long m f before ∙ at in
-        ap (λ (l : Bytes). take 32 (drop (32 * (i - 1)) l)) (append-assoc (join m f) (f (suc m)) R)
-        ∙ ap (take 32) (drop-at (join m f) (f (suc m) ++ R) (32 * (i - 1)) long)
-        ∙ take-at (f (suc m)) R 32 (last m (λ i. length (f i) ≡ 32) h)
+        let n : m ≡ i - 1 = omega arith in
+        let long : length (join m f) ≡ w * (i - 1) = join-long w m f before ∙ ap (λ (k : ℕ). w * k) n in
+        ap (λ (l : Bytes). take w (drop (w * (i - 1)) l)) (append-assoc (join m f) (f (suc m)) R)
+        ∙ ap (take w) (drop-at (join m f) (f (suc m) ++ R) (w * (i - 1)) long)
+        ∙ take-at (f (suc m)) R w (last m (λ i. length (f i) ≡ w) h)
         ∙ ap f e
 
 -- a join with its next string

@@ -27,7 +27,7 @@ number-block n = record { len = length-digits 256 16 n; low = digits-bytes 16 n 
 
 -- ---- multiples
 
-double-block : {X : Bytes} → Block X → Block (double X)
+pub double-block : {X : Bytes} → Block X → Block (double X)
 unfolding double
 double-block {X} p = ⊕-block (shift-block X p) (number-block (135 * msb (bits X)))
 
@@ -41,7 +41,7 @@ bits-block (suc k) (suc n) {X} p = go (eqb (suc n % 2) 0) (double-block (bits-bl
     go true q = q
     go false q = ⊕-block q p
 
-times-block : (n : ℕ) {X : Bytes} → Block X → Block (n · X)
+pub times-block : (n : ℕ) {X : Bytes} → Block X → Block (n · X)
 unfolding _·_
 times-block n p = bits-block n n p
 

@@ -19,6 +19,7 @@ pub mod Round
 pub mod BlockFunction
 pub mod AesBlocks
 pub mod KeyBlocks
+pub mod Linear
 -- headers, the hash and the prf
 pub mod Headers
 pub mod BadEntries

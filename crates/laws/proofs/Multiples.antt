@@ -164,7 +164,7 @@ pub times-odd : (n : ℕ) (X : Bytes) → n % 2 ≢ 0 → n · X ≡ double ((n 
 times-odd n X e =
     half n X (omega arith) ∙ ap (λ (b : Bool). if b then double ((n / 2) · X) else double ((n / 2) · X) ⊕ X) (ne-eqb (n % 2) 0 e)
 
-double-zeros : double zeros ≡ zeros
+pub double-zeros : double zeros ≡ zeros
 unfolding double bits bytes bytesOf valueFrom shiftLeft digits _⊕_ zip
 double-zeros = refl
 
