@@ -1,3 +1,4 @@
 pub mod Arrays
+mod Turned
 mod Same
 mod Stores

@@ -20,17 +20,18 @@ pub fn xor(a: [u8; 16], b: [u8; 16]) -> [u8; 16]
     r
 }
 
-// 2·x: each byte shifted left with the first bit of the next, and where the bit that is lost was 1, 135 goes into the last byte.
+// 2·x: each byte shifted left with the first bit of the next, the last byte's next being the first. Where the bit that came round was 1,
+// what is left of 135 goes into the last byte. So every byte is made alike, which the compiler turns into vector code.
 pub fn double(x: [u8; 16]) -> [u8; 16]
     ensures { λ r. ⌜ r ≡ double x ⌝ }
 {
     let mut r = [0u8; 16];
     let mut i: usize = 0;
-    while i < 15 {
-        r[i] = (x[i] << 1) ^ (x[i + 1] >> 7);
+    while i < 16 {
+        r[i] = (x[i] << 1) ^ (x[(i + 1) % 16] >> 7);
         i += 1;
     }
-    r[15] = (x[15] << 1) ^ ((x[0] >> 7) * 135);
+    r[15] = r[15] ^ ((x[0] >> 7) * 134);
     r
 }
 
