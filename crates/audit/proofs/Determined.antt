@@ -7,6 +7,7 @@ use mathlib.Core.Path.{_≡_, ap, sym, _∙_}
 use Prim.Native.Nat.{ℕ}
 use denote.Ref.{now, ptr}
 use Rattle.paper.specs.Strings.{Bytes}
+use Rattle.paper.specs.Section7.{_·_}
 use Rattle.paper.specs.Figure6 as figure6
 use Rattle.paper.specs.Document01.{Outcome, OutcomeAt}
 use Rattle.answer.specs.Outcomes.{outcome, outcomeAt}
@@ -16,10 +17,10 @@ use Rattle.paper.specs.DayFile.{Listing}
 use Rattle.day.specs.declared.Listed.{Listed}
 use Rattle.day.specs.Lists.{listingAs}
 use Rattle.tbc.specs.declared.Key.{Key}
-use Rattle.tbc.specs.Meaning.{blocks}
+use Rattle.tbc.specs.declared.Base.{Base}
+use Rattle.tbc.specs.Meaning.{blocks, base, multiples, Kept}
 use Rattle.block.proofs.xor.Reads as block-xor
 use Rattle.block.proofs.double.Reads as block-double
-use Rattle.block.proofs.times.Reads as block-times
 use Rattle.block.proofs.pad.Reads as block-pad
 use Rattle.block.proofs.number.Reads as block-number
 use Rattle.block.proofs.load.Reads as block-load
@@ -33,8 +34,14 @@ use Rattle.tbc.proofs.key_of.Reads as tbc-key-of
 use Rattle.tbc.proofs.Pair.table.Reads as tbc-pair-table
 use Rattle.tbc.proofs.Pair.at.Reads as tbc-pair-at
 use Rattle.tbc.proofs.Pair.string.Reads as tbc-pair-string
+use Rattle.tbc.proofs.Key.base.Reads as tbc-key-base
+use Rattle.tbc.proofs.Key.multiples.Reads as tbc-key-multiples
+use Rattle.tbc.proofs.Key.row_mask.Reads as tbc-key-row-mask
+use Rattle.tbc.proofs.Base.power.Reads as tbc-base-power
 use Rattle.tbc.proofs.e.Reads as tbc-e
 use Rattle.tbc.proofs.e_running.Reads as tbc-e-running
+use Rattle.tbc.proofs.e_full.Reads as tbc-e-full
+use Rattle.tbc.proofs.e_short.Reads as tbc-e-short
 use Rattle.tbc.proofs.next_power.Reads as tbc-next-power
 use Rattle.answer.proofs.StretchBytes.bits.Reads as answer-bits
 use Rattle.header.proofs.entry.Reads as header-entry
@@ -93,9 +100,20 @@ one-listing z w X Y o p q =
     let e : listingAs z X ≡ listingAs w Y = one p q in
     (ap (λ (o : Listing). record { number = o .number; headers = o .headers; records = o .records }) e, ap (λ (o : Listing). o .places) e)
 
--- a key record by its blocks
-one-key : (z w : Key) (k : figure6.Key) → blocks z ≡ k → blocks w ≡ k → z ≡ w
-one-key z w k p q = ap (λ (b : figure6.Key). record { i = b .I; j = b .J; l = b .L }) (one p q)
+-- a key record by its blocks, of which the others are multiples
+one-key : (z w : Key) (k : figure6.Key) → blocks z ≡ k → Kept z → blocks w ≡ k → Kept w → z ≡ w
+one-key z w k p y q x =
+    let same : blocks z ≡ blocks w = one p q in
+    let I2 = y .I2 ∙ ap (λ (b : figure6.Key). 2 · b .I) same ∙ sym (x .I2) in
+    let J2 = y .J2 ∙ ap (λ (b : figure6.Key). 2 · b .J) same ∙ sym (x .J2) in
+    let Ls = y .Ls ∙ ap (λ (b : figure6.Key). multiples (b .L)) same ∙ sym (x .Ls) in
+    let Js = y .Js ∙ ap (λ (b : figure6.Key). multiples (b .J)) same ∙ sym (x .Js) in
+    let Rows = y .Rows ∙ ap (λ (b : figure6.Key). multiples (8 · b .J)) same ∙ sym (x .Rows) in
+    λ i. record { i = same i .I; j = same i .J; l = same i .L; i2 = I2 i; j2 = J2 i; ls = Ls i; js = Js i; rows = Rows i }
+
+-- a base by its blocks
+one-base : (z w : Base) (k : figure6.Key) → base z ≡ k → base w ≡ k → z ≡ w
+one-base z w k p q = ap (λ (b : figure6.Key). record { i = b .I; j = b .J; l = b .L }) (one p q)
 
 -- ---- Blocks: `block`
 
@@ -104,9 +122,6 @@ block-xor-determined κs a z w e f p q = one p q
 
 pub block-double-determined : (κs : _) (a : _) (z w : _) (e f : _) → block-double.Learnt κs a z e → block-double.Learnt κs a w f → z ≡ w
 block-double-determined κs a z w e f p q = one p q
-
-pub block-times-determined : (κs : _) (a : _) (z w : _) (e f : _) → block-times.Learnt κs a z e → block-times.Learnt κs a w f → z ≡ w
-block-times-determined κs a z w e f p q = one p q
 
 pub block-pad-determined : (κs : _) (a : _) (z w : _) (e f : _) → block-pad.Learnt κs a z e → block-pad.Learnt κs a w f → z ≡ w
 block-pad-determined κs a z w e f p q = one p q
@@ -140,7 +155,19 @@ aes-aes10-determined κs a z w e f p q = one p q
 -- ---- The block function: `tbc`
 
 pub tbc-key-of-determined : (κs : _) (a : _) (z w : _) (e f : _) → tbc-key-of.Learnt κs a z e → tbc-key-of.Learnt κs a w f → z ≡ w
-tbc-key-of-determined κs a z w e f p q = one-key z w _ p q
+tbc-key-of-determined κs a z w e f p q = one-key z w _ (p .0) (p .1) (q .0) (q .1)
+
+pub tbc-key-base-determined : (κs : _) (a : _) (z w : _) (e f : _) → tbc-key-base.Learnt κs a z e → tbc-key-base.Learnt κs a w f → z ≡ w
+tbc-key-base-determined κs a z w e f p q = one-base z w _ p q
+
+pub tbc-key-multiples-determined : (κs : _) (a : _) (z w : _) (e f : _) → tbc-key-multiples.Learnt κs a z e → tbc-key-multiples.Learnt κs a w f → z ≡ w
+tbc-key-multiples-determined κs a z w e f p q = one p q
+
+pub tbc-key-row-mask-determined : (κs : _) (a : _) (z w : _) (e f : _) → tbc-key-row-mask.Learnt κs a z e → tbc-key-row-mask.Learnt κs a w f → z ≡ w
+tbc-key-row-mask-determined κs a z w e f p q = one p q
+
+pub tbc-base-power-determined : (κs : _) (a : _) (z w : _) (e f : _) → tbc-base-power.Learnt κs a z e → tbc-base-power.Learnt κs a w f → z ≡ w
+tbc-base-power-determined κs a z w e f p q = one p q
 
 pub tbc-pair-table-determined : (κs : _) (a : _) (z w : _) (e f : _) → tbc-pair-table.Learnt κs a z e → tbc-pair-table.Learnt κs a w f → z ≡ w
 tbc-pair-table-determined κs a z w e f p q = one p q
@@ -156,6 +183,12 @@ tbc-e-determined κs a z w e f p q = one p q
 
 pub tbc-e-running-determined : (κs : _) (a : _) (z w : _) (e f : _) → tbc-e-running.Learnt κs a z e → tbc-e-running.Learnt κs a w f → z ≡ w
 tbc-e-running-determined κs a z w e f p q = one p q
+
+pub tbc-e-full-determined : (κs : _) (a : _) (z w : _) (e f : _) → tbc-e-full.Learnt κs a z e → tbc-e-full.Learnt κs a w f → z ≡ w
+tbc-e-full-determined κs a z w e f p q = one p q
+
+pub tbc-e-short-determined : (κs : _) (a : _) (z w : _) (e f : _) → tbc-e-short.Learnt κs a z e → tbc-e-short.Learnt κs a w f → z ≡ w
+tbc-e-short-determined κs a z w e f p q = one p q
 
 pub tbc-next-power-determined : (κs : _) (a : _) (z w : _) (e f : _) → tbc-next-power.Learnt κs a z e → tbc-next-power.Learnt κs a w f → z ≡ w
 tbc-next-power-determined κs a z w e f p q = one p q

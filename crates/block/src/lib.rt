@@ -1,11 +1,11 @@
-// Blocks of 16 bytes: sums, multiples, padding, numbers, and blocks in a slice. And bytes in a slice: copied, cleared, compared.
+// Blocks of 16 bytes: sums, doubles, padding, numbers, and blocks in a slice. And bytes in a slice: copied, cleared, compared.
 // The AEZ paper's section 7, NOTATION, and document 01, "Blocks".
 ghost use mathlib.Core.List.{_++_};
 ghost use mathlib.Core.Path.{_≡_};
 ghost use Prim.Native.Nat.{_+_, _<_, _≤_};
 ghost use lib.ListN.{length, take, drop, replicate};
 ghost use Rattle.paper.specs.Strings.{same, _⊕_, pad10*, number};
-ghost use Rattle.paper.specs.Section7.{double, _·_};
+ghost use Rattle.paper.specs.Section7.{double};
 
 // a ⊕ b.
 pub fn xor(a: [u8; 16], b: [u8; 16]) -> [u8; 16]
@@ -33,25 +33,6 @@ pub fn double(x: [u8; 16]) -> [u8; 16]
     }
     r[15] = r[15] ^ ((x[0] >> 7) * 134);
     r
-}
-
-// n·x, by section 7's rules: 0·x is zero, 2m·x is 2·(m·x), and (2m + 1)·x is 2m·x ⊕ x. At 1, which every other number comes down to,
-// x itself spares the double of zero.
-pub fn times(n: u64, x: [u8; 16]) -> [u8; 16]
-    ensures { λ r. ⌜ r ≡ n · x ⌝ }
-{
-    if n == 0 {
-        return [0u8; 16];
-    }
-    if n == 1 {
-        return x;
-    }
-    let half = times(n / 2, x);
-    let even = double(half);
-    if n % 2 == 0 {
-        return even;
-    }
-    xor(even, x)
 }
 
 // s10*, for a string of less than 16 bytes.

@@ -1,19 +1,22 @@
--- The rows of the hash: string i, from 1 on, has the row 2 + i, where the number 0 has no power of L.
+-- The rows of the hash: string i, from 1 on, has the row 2 + i.
 use mathlib.Core.Bool.{false}
-use mathlib.Core.Path.{_≡_, refl, ap, subst, _∙_}
-use Prim.Native.Nat.{ℕ, suc, _+_, _-_, _≤_}
+use mathlib.Core.Path.{_≡_, ap, _∙_}
+use Prim.Native.Nat.{ℕ, _+_, _-_, _*_, _≤_}
 use native.Mathlib.Omega.{arith}
 use Rattle.paper.specs.Strings.{Bytes}
 use Rattle.paper.specs.Figure6.{row, Key, E}
-use Rattle.tbc.specs.Meaning.{pair, rowOf, Plain}
+use Rattle.paper.specs.Section7.{_·_}
+use Rattle.tbc.specs.Meaning.{pair, base, rowOf, Hashing}
+use Rattle.tbc.specs.declared.Base.{Base}
 use Rattle.tbc.specs.declared.Pair.{Pair}
-use Rattle.tbc.proofs.Pairs.{at-pair}
-
-pub plain-from3 : (i : ℕ) → 1 ≤ i → Plain (row (2 + i)) 0
-plain-from3 i h =
-    let high : suc (suc (suc (i - 1))) ≡ 2 + i = omega arith in
-    subst (λ (r : ℕ). Plain (row r) 0) high refl
+use Rattle.tbc.proofs.Pairs.{at-pair, hashing}
 
 -- E at a pair, of a block: its number j in row i
 pub gives : (K : Key) (p : Pair) (i j : ℕ) (X Y r : Bytes) → p ≡ pair false i j → X ≡ Y → r ≡ E K (rowOf p) (p .2) X → r ≡ E K (row i) j Y
 gives K p i j X Y r q s e = e ∙ at-pair p false i j q K X ∙ ap (E K (row i) j) s
+
+-- the mask of string i is its row's
+pub in-its-row : (k : Base) (mask : Bytes) (p : Pair) (i j : ℕ) → 1 ≤ i → p ≡ pair false (2 + i) j → mask ≡ (i * 8) · base k .J → Hashing k p mask
+in-its-row k mask p i j h e m =
+    let same : i ≡ 2 + i - 2 = omega arith in
+    hashing p (2 + i) j e k mask (omega arith) (m ∙ ap (λ (n : ℕ). (n * 8) · k .j) same)

@@ -6,26 +6,28 @@ ghost use mathlib.Core.Path.{_≡_};
 ghost use Prim.Native.Nat.{_+_, _*_, _/_, _≤_, _<_, min};
 ghost use lib.ListN.{length};
 ghost use Rattle.paper.specs.Strings.{_⊕_, pad10*, sum};
+ghost use Rattle.paper.specs.Section7.{_·_};
 ghost use Rattle.paper.specs.Figure6.{row, E, blockAt, hashString, prfFrom};
 ghost use Rattle.paper.specs.Document01.{readHeader};
-ghost use Rattle.tbc.specs.Meaning.{blocks};
+ghost use Rattle.tbc.specs.Meaning.{blocks, base, Kept, OfJ};
 ghost use Rattle.hash.specs.Delta.{deltaOf};
 ghost use Rattle.hash.specs.Fitted.{fitted};
 
-// Line 304: the sum over the full blocks of the i-th string. The power of L is carried from block to block.
-fn full_blocks(k: tbc::Key, i: u32, t: &[u8]) -> [u8; 16]
-    requires { ⌜ (1 ≤ i) × ((i ≤ 17) × (length (now t) ≤ 1024)) ⌝ }
-    ensures { λ r. ⌜ r ≡ sum (length (now (t .entry)) / 16) (λ j. E (blocks k) (row (2 + i)) j (blockAt (now (t .entry)) j)) ⌝ }
+// Line 304: the sum over the full blocks of the i-th string. m is 0·J to 7·J and mask the row's multiple of J; the power of L is carried
+// from block to block.
+fn full_blocks(k: tbc::Base, m: &[u8; 128], mask: [u8; 16], i: u32, t: &[u8]) -> [u8; 16]
+    requires { ⌜ (1 ≤ i) × (i ≤ 17) × (length (now t) ≤ 1024) × (OfJ k (now m)) × (mask ≡ (i * 8) · base k .J) ⌝ }
+    ensures { λ r. ⌜ r ≡ sum (length (now (t .entry)) / 16) (λ j. E (base k) (row (2 + i)) j (blockAt (now (t .entry)) j)) ⌝ }
 {
     let pairs = tbc::Pair::HASH.string(i);
     let mut total = [0u8; 16];
-    let mut power = k.l;
+    let mut power = k.power();
     let mut at: usize = 0;
     let mut j: u32 = 1;
     while 16 <= t.len() - at {
         let x = block::load(t, at);
         let p = pairs.at(j);
-        let e = tbc::e_running(k, p, power, x);
+        let e = tbc::e_full(k, m, p, mask, power, x);
         let more = block::xor(total, e);
         total = more;
         let next = tbc::next_power(j, power);
@@ -37,36 +39,40 @@ fn full_blocks(k: tbc::Key, i: u32, t: &[u8]) -> [u8; 16]
 }
 
 // Line 306: a sum, and the block that is short or empty.
-fn with_short(k: tbc::Key, i: u32, full: [u8; 16], last: &[u8]) -> [u8; 16]
-    requires { ⌜ (1 ≤ i) × ((i ≤ 17) × (length (now last) < 16)) ⌝ }
-    ensures { λ r. ⌜ r ≡ full ⊕ E (blocks k) (row (2 + i)) 0 (pad10* (now (last .entry))) ⌝ }
+fn with_short(k: tbc::Base, mask: [u8; 16], i: u32, full: [u8; 16], last: &[u8]) -> [u8; 16]
+    requires { ⌜ (1 ≤ i) × (i ≤ 17) × (length (now last) < 16) × (mask ≡ (i * 8) · base k .J) ⌝ }
+    ensures { λ r. ⌜ r ≡ full ⊕ E (base k) (row (2 + i)) 0 (pad10* (now (last .entry))) ⌝ }
 {
     let p = tbc::Pair::HASH.string(i);
     let x = block::pad(last);
-    let e = tbc::e(k, p, x);
+    let e = tbc::e_short(k, p, mask, x);
     block::xor(full, e)
 }
 
 // Lines 303 to 306: Δ_i of the i-th string of the tweak.
 pub fn string_hash(k: tbc::Key, i: u32, t: &[u8]) -> [u8; 16]
-    requires { ⌜ (1 ≤ i) × ((i ≤ 17) × (length (now t) ≤ 1024)) ⌝ }
+    requires { ⌜ (Kept k) × (1 ≤ i) × (i ≤ 17) × (length (now t) ≤ 1024) ⌝ }
     ensures { λ r. ⌜ r ≡ hashString (E (blocks k)) i (now (t .entry)) ⌝ }
 {
-    let full = full_blocks(k, i, t);
+    let b = k.base();
+    let m = k.multiples();
+    let mask = k.row_mask(tbc::Pair::HASH.string(i));
+    let full = full_blocks(b, &m, mask, i, t);
     let n = t.len();
     if n == 0 {
-        return with_short(k, i, full, t);
+        return with_short(b, mask, i, full, t);
     }
     if n % 16 == 0 {
         return full;
     }
     let at = n / 16 * 16;
-    with_short(k, i, full, &t[at..n])
+    with_short(b, mask, i, full, &t[at..n])
 }
 
 // Lines 300 to 307: Δ of the tweak that holds the stretch and the strings of a header, or zero for a header that does not read. One walk
 // tests the entries and hashes their strings, each of which is lent from where it begins in the header.
 pub fn delta(k: tbc::Key, stretch: StretchBits, h: &[u8]) -> [u8; 16]
+    requires { ⌜ Kept k ⌝ }
     ensures { λ r. ⌜ r ≡ deltaOf (E (blocks k)) (stretch .0) (readHeader (now (h .entry))) ⌝ }
 {
     let Reading::Strings(count) = header::count(h) else {
@@ -117,15 +123,17 @@ fn put_front(s: &mut [u8], y: [u8; 16])
 
 // Line 312: out is filled with the blocks E(Δ), E(Δ ⊕ [1]), .., the last one cut.
 pub fn prf(k: tbc::Key, delta: [u8; 16], out: &mut [u8])
-    requires { ⌜ length (now out) ≤ 64 ⌝ }
+    requires { ⌜ (Kept k) × (length (now out) ≤ 64) ⌝ }
     ensures { λ _. ⌜ now (out .exit) ≡ prfFrom (E (blocks k)) delta (length (now (out .entry))) ⌝ }
 {
+    let b = k.base();
+    let m = k.multiples();
     let mut at: usize = 0;
     let mut i: u64 = 0;
     while at < out.len() {
         let n = block::number(i);
         let x = block::xor(delta, n);
-        let y = tbc::e(k, tbc::Pair::PRF, x);
+        let y = tbc::e(b, &m, tbc::Pair::PRF, x);
         put_front(&mut out[at..], y);
         at += 16;
         i += 1;

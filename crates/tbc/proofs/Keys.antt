@@ -1,21 +1,24 @@
--- What a function is told of a parameter that is a key: its parts are blocks.
+-- What a function is told of a parameter that is a key, or the base of one: its parts are blocks. And what it takes out of a key fits together.
 use mathlib.Core.List.{List, map, map-id}
-use mathlib.Core.Path.{subst}
+use mathlib.Core.Path.{_≡_, subst, subst⁻¹, ap, sym, _∙_}
 use Prim.Native.Nat.{ℕ}
 use mir.Val.{Val}
 use denote.Laws.{Is}
 use denote.Struct.Declared.{row}
-use Rattle.paper.specs.Strings.{Block}
+use Rattle.paper.specs.Strings.{Bytes, Block}
+use Rattle.paper.specs.Figure6 as figure6
 use Rattle.laws.proofs.KeyBlocks.{KeyBytes}
 use Rattle.block.proofs.Arrays.{array-bytes}
 use Rattle.tbc.specs.declared.Key.{Key}
-use Rattle.tbc.specs.Meaning.{blocks}
-use Rattle.tbc.proofs.Key.{the-type}
+use Rattle.tbc.specs.declared.Base.{Base}
+use Rattle.tbc.specs.Meaning.{blocks, base, multiples, OfJ}
+use Rattle.tbc.proofs.Key as key
+use Rattle.tbc.proofs.Base as base-type
 
 field-bytes : (X : List ℕ) → Block (map (λ (x : ℕ). x) X) → Block X
 field-bytes X p = subst (λ (l : List ℕ). Block l) (map-id X) p
 
-pub key-bytes : (k : Key) (vs : List Val) → Is (row the-type) k vs → KeyBytes (blocks k)
+pub key-bytes : (k : Key) (vs : List Val) → Is (row key.the-type) k vs → KeyBytes (blocks k)
 key-bytes k vs p =
     let g = p .1 .1 in
     record {
@@ -23,3 +26,20 @@ key-bytes k vs p =
       J = field-bytes (k .j) (array-bytes 16 _ _ (g .1 .0));
       L = field-bytes (k .l) (array-bytes 16 _ _ (g .1 .1 .0));
     }
+
+pub base-bytes : (k : Base) (vs : List Val) → Is (row base-type.the-type) k vs → KeyBytes (base k)
+base-bytes k vs p =
+    let g = p .1 .1 in
+    record {
+      I = field-bytes (k .i) (array-bytes 16 _ _ (g .0));
+      J = field-bytes (k .j) (array-bytes 16 _ _ (g .1 .0));
+      L = field-bytes (k .l) (array-bytes 16 _ _ (g .1 .1 .0));
+    }
+
+-- the multiples of J that were taken out of k are those of its base b
+pub of-j : (k : Key) (b : Base) (m : Bytes) → base b ≡ blocks k → m ≡ multiples (k .j) → OfJ b m
+of-j k b m e h = h ∙ ap (λ (K : figure6.Key). multiples (K .J)) (sym e)
+
+-- the parts of a base that was taken out of k are blocks too
+pub taken-bytes : (k : Key) (vs : List Val) → Is (row key.the-type) k vs → (b : Base) → base b ≡ blocks k → KeyBytes (base b)
+taken-bytes k vs p b e = subst⁻¹ (λ (K : figure6.Key). KeyBytes K) e (key-bytes k vs p)

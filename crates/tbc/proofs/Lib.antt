@@ -1,3 +1,4 @@
+mod Eight
 mod Masks
 pub mod Powers
 pub mod Pairs

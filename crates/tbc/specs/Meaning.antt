@@ -2,19 +2,39 @@
 use mathlib.Core.Bool.{Bool, true, false}
 use mathlib.Core.List.{List, [], _∷_, map}
 use mathlib.Core.Path.{_≡_}
-use Prim.Native.Nat.{ℕ, zero, suc, _-_, _/_, _%_, _≤_}
+use Prim.Native.Nat.{ℕ, zero, suc, _-_, _*_, _/_, _%_, _≤_}
 use lib.Dec.{eqb}
-use Rattle.paper.specs.Strings.{Bytes, if_then_else_}
-use Rattle.paper.specs.Section7.{double, twoTo}
+use Rattle.paper.specs.Strings.{Bytes, if_then_else_, join}
+use Rattle.paper.specs.Section7.{double, twoTo, _·_}
 use Rattle.paper.specs.Figure6 as figure6
 use Rattle.paper.specs.Figure6.{Row, minus1, row}
 use Rattle.paper.specs.Document01.{Use, a, aᵢ, aaᵢ, x, y, xx, yy, u, v, uu, vv, tiny, tinyLast, prf, hash, indices}
 use Rattle.tbc.specs.declared.Key.{Key}
+use Rattle.tbc.specs.declared.Base.{Base}
 use Rattle.tbc.specs.declared.Pair.{Pair}
 
--- the three blocks of a key record
+-- the three blocks of a key record, and of the part of it that loops take along
 abbrev pub blocks : Key → figure6.Key
 blocks k = record { I = k .i; J = k .j; L = k .l }
+
+abbrev pub base : Base → figure6.Key
+base k = record { I = k .i; J = k .j; L = k .l }
+
+-- 0·X to 7·X, one after the other
+unfoldable pub multiples : Bytes → Bytes
+multiples X = join 8 (λ n. (n - 1) · X)
+
+-- each block that the record keeps is its multiple of I, J or L: those that request E7 names, and those that Figure 6 reads
+pub record Kept (k : Key) : Type 0 where
+  pub I2 : k .i2 ≡ 2 · k .i
+  pub J2 : k .j2 ≡ 2 · k .j
+  pub Ls : k .ls ≡ multiples (k .l)
+  pub Js : k .js ≡ multiples (k .j)
+  pub Rows : k .rows ≡ multiples (8 · k .j)
+
+-- m is 0·J to 7·J, taken out of the record and lent beside its base
+abbrev pub OfJ : Base → Bytes → Type 0
+OfJ k m = m ≡ multiples (k .j)
 
 -- a pair of indices, (-1, second) being minus with 1
 abbrev pub pair : Bool → ℕ → ℕ → Pair
@@ -42,17 +62,21 @@ indexPairs =
 abbrev pub nextPower : ℕ → Bytes → Bytes
 nextPower b power = if eqb (b % 8) 0 then double power else power
 
--- the pairs whose mask has no power of L: lines 404, 405 and 409, where the figure defines them
+-- the pairs whose mask is one multiple of J below 8: lines 404 and 405, where the figure defines them
 abbrev pub Plain : Row → ℕ → Type 0
 Plain minus1 j = j ≤ 7
 Plain (row zero) j = j ≤ 7
-Plain (row (suc zero)) j = ⊥
-Plain (row (suc (suc zero))) j = ⊥
-Plain (row (suc (suc (suc i)))) j = j ≡ 0
+Plain (row (suc i)) j = ⊥
 
 -- the pair whose second index counts up from 1 in a row from 1 on, and the power of L that goes with it
-pub record Running (k : Key) (p : Pair) (power : Bytes) : Type 0 where
+pub record Running (k : Base) (p : Pair) (power : Bytes) : Type 0 where
   pub plus : p .0 ≡ false
   pub counted : 1 ≤ p .1
   pub from1 : 1 ≤ p .2
   pub carried : power ≡ twoTo ((p .2 - 1) / 8) (k .l)
+
+-- the pair of a row from 3 on, and the multiple of J that tells that row from the others
+pub record Hashing (k : Base) (p : Pair) (mask : Bytes) : Type 0 where
+  pub plus : p .0 ≡ false
+  pub from3 : 3 ≤ p .1
+  pub masked : mask ≡ ((p .1 - 2) * 8) · k .j

@@ -1,28 +1,138 @@
 // The block function E of Figure 6 of the AEZ paper: the key record, the table of index pairs, and E itself.
 ghost use mathlib.Core.Path.{_≡_};
-ghost use Prim.Native.Nat.{_+_, _-_, _*_, _<_, _≤_};
-ghost use lib.ListN.{length};
+ghost use Prim.Native.Nat.{_+_, _-_, _*_, _%_, _<_, _≤_};
+ghost use lib.ListN.{length, take, drop};
 ghost use Rattle.paper.specs.Strings.{_⊕_};
-ghost use Rattle.paper.specs.Section7.{_·_, AES4};
+ghost use Rattle.paper.specs.Section7.{_·_};
 ghost use Rattle.paper.specs.Figure6.{keyOf, k0, k1, k2, K10, E};
-ghost use Rattle.tbc.specs.Meaning.{blocks, pair, indexPairs, rowOf, nextPower, Plain, Running};
+ghost use Rattle.tbc.specs.Meaning.{blocks, base, multiples, Kept, OfJ, pair, indexPairs, rowOf, nextPower, Plain, Running, Hashing};
 
-// The key: the blocks I, J and L.
+// The key: the blocks I, J and L, and the multiples of them that are kept. Only `key_of` makes one, and nothing changes it: each kept
+// block is its multiple from then on (`Meaning.Kept`). 2·I, 2·J and the multiples of L are kept because request E7 names them; what
+// Figure 6 reads are the multiples of J, and those of 8·J, which tell the rows of the hash apart.
 pub struct Key {
-    pub i: [u8; 16],
-    pub j: [u8; 16],
-    pub l: [u8; 16],
+    i: [u8; 16],
+    j: [u8; 16],
+    l: [u8; 16],
+    i2: [u8; 16],
+    j2: [u8; 16],
+    ls: [u8; 128],
+    js: [u8; 128],
+    rows: [u8; 128],
+}
+
+// What loops take of a key from block to block: I, J and L by value. The multiples of J are lent beside it.
+pub struct Base {
+    i: [u8; 16],
+    j: [u8; 16],
+    l: [u8; 16],
+}
+
+// 0·x to 7·x, by section 7's rules: 2n·x is 2·(n·x), and (2n + 1)·x is 2n·x ⊕ x.
+fn multiples(x: [u8; 16]) -> [u8; 128]
+    ensures { λ r. ⌜ r ≡ multiples x ⌝ }
+{
+    let mut m = [0u8; 128];
+    block::store(&mut m, 16, x);
+    let mut n: usize = 2;
+    while n < 8 {
+        let half = block::load(&m, 8 * n);
+        let even = block::double(half);
+        block::store(&mut m, 16 * n, even);
+        let odd = block::xor(even, x);
+        block::store(&mut m, 16 * n + 16, odd);
+        n += 2;
+    }
+    m
+}
+
+// Of eight blocks the one that n mod 8 counts from 0.
+fn multiple(m: &[u8; 128], n: u32) -> [u8; 16]
+    ensures { λ r. ⌜ r ≡ take 16 (drop (16 * (n % 8)) (now (m .entry))) ⌝ }
+{
+    let at = (n % 8) as usize;
+    block::load(m, 16 * at)
+}
+
+// The record of I, J and L.
+fn record_of(i: [u8; 16], j: [u8; 16], l: [u8; 16]) -> Key
+    ensures { λ r. ⌜ (r .i ≡ i) × (r .j ≡ j) × (r .l ≡ l) × Kept r ⌝ }
+{
+    let i2 = block::double(i);
+    let ls = multiples(l);
+    let js = multiples(j);
+    let j2 = multiple(&js, 2);
+    let j4 = multiple(&js, 4);
+    let j8 = block::double(j4);
+    let rows = multiples(j8);
+    Key {
+        i,
+        j,
+        l,
+        i2,
+        j2,
+        ls,
+        js,
+        rows,
+    }
 }
 
 // The key of 48 bytes, I first.
 pub fn key_of(s: &[u8]) -> Key
     requires { ⌜ length (now s) ≡ 48 ⌝ }
-    ensures { λ r. ⌜ blocks r ≡ keyOf (now (s .entry)) ⌝ }
+    ensures { λ r. ⌜ (blocks r ≡ keyOf (now (s .entry))) × Kept r ⌝ }
 {
     let i = block::load(s, 0);
     let j = block::load(s, 16);
     let l = block::load(s, 32);
-    Key { i, j, l }
+    record_of(i, j, l)
+}
+
+impl Key {
+    pub fn base(self) -> Base
+        ensures { λ r. ⌜ base r ≡ blocks self ⌝ }
+    {
+        let i = self.i;
+        let j = self.j;
+        let l = self.l;
+        Base { i, j, l }
+    }
+
+    // 0·J to 7·J.
+    pub fn multiples(self) -> [u8; 128]
+        requires { ⌜ Kept self ⌝ }
+        ensures { λ r. ⌜ r ≡ multiples (blocks self .J) ⌝ }
+    {
+        self.js
+    }
+
+    // Lines 408 and 409: s·(8·J), which is (8s)·J, for row s + 2. It is kept for s below 8. From there on it is put together from what is kept
+    // for the rest of s, three times doubled, and for its three low bits.
+    pub fn row_mask(self, p: Pair) -> [u8; 16]
+        requires { ⌜ (Kept self) × (3 ≤ p .1) × (p .1 ≤ 65) ⌝ }
+        ensures { λ r. ⌜ r ≡ ((p .1 - 2) * 8) · blocks self .J ⌝ }
+    {
+        let rows = self.rows;
+        let s = p.1 - 2;
+        if s < 8 {
+            return multiple(&rows, s);
+        }
+        let high = multiple(&rows, s / 8);
+        let two = block::double(high);
+        let four = block::double(two);
+        let eight = block::double(four);
+        let low = multiple(&rows, s);
+        block::xor(eight, low)
+    }
+}
+
+impl Base {
+    // L, which is the power of L for the numbers from 1 to 8.
+    pub fn power(self) -> [u8; 16]
+        ensures { λ r. ⌜ r ≡ base self .L ⌝ }
+    {
+        self.l
+    }
 }
 
 // A pair of indices: whether the first is -1, the first (1 where it is -1), and the second.
@@ -104,8 +214,8 @@ impl Pair {
 }
 
 // Lines 402 and 403: the key lists.
-fn keys0(k: Key) -> [[u8; 16]; 5]
-    ensures { λ r. ⌜ r ≡ k0 (blocks k) ⌝ }
+fn keys0(k: Base) -> [[u8; 16]; 5]
+    ensures { λ r. ⌜ r ≡ k0 (base k) ⌝ }
 {
     let z = [0u8; 16];
     let i = k.i;
@@ -114,8 +224,8 @@ fn keys0(k: Key) -> [[u8; 16]; 5]
     [z, i, j, l, z]
 }
 
-fn keys1(k: Key) -> [[u8; 16]; 5]
-    ensures { λ r. ⌜ r ≡ k1 (blocks k) ⌝ }
+fn keys1(k: Base) -> [[u8; 16]; 5]
+    ensures { λ r. ⌜ r ≡ k1 (base k) ⌝ }
 {
     let z = [0u8; 16];
     let i = k.i;
@@ -124,8 +234,8 @@ fn keys1(k: Key) -> [[u8; 16]; 5]
     [z, j, l, i, z]
 }
 
-fn keys2(k: Key) -> [[u8; 16]; 5]
-    ensures { λ r. ⌜ r ≡ k2 (blocks k) ⌝ }
+fn keys2(k: Base) -> [[u8; 16]; 5]
+    ensures { λ r. ⌜ r ≡ k2 (base k) ⌝ }
 {
     let z = [0u8; 16];
     let i = k.i;
@@ -134,33 +244,14 @@ fn keys2(k: Key) -> [[u8; 16]; 5]
     [z, l, i, j, i]
 }
 
-fn keys10(k: Key) -> [[u8; 16]; 11]
-    ensures { λ r. ⌜ r ≡ K10 (blocks k) ⌝ }
+fn keys10(k: Base) -> [[u8; 16]; 11]
+    ensures { λ r. ⌜ r ≡ K10 (base k) ⌝ }
 {
     let z = [0u8; 16];
     let i = k.i;
     let j = k.j;
     let l = k.l;
     [z, i, l, j, i, l, j, i, l, j, i]
-}
-
-// Line 402's k0 over one multiple of J: lines 405, 408 and 409.
-fn under_multiple(k: Key, n: u64, x: [u8; 16]) -> [u8; 16]
-    ensures { λ r. ⌜ r ≡ AES4 (k0 (blocks k)) (x ⊕ n · k .j) ⌝ }
-{
-    let j = k.j;
-    let mask = block::times(n, j);
-    let y = block::xor(x, mask);
-    let keys = keys0(k);
-    aes::aes4(keys, y)
-}
-
-// Lines 408 and 409: the number of J's multiple that tells a row from 3 on from the others.
-fn row_number(row: u32) -> u64
-    requires { ⌜ 3 ≤ row ⌝ }
-    ensures { λ r. ⌜ r ≡ (row - 2) * 8 ⌝ }
-{
-    ((row - 2) as u64) * 8
 }
 
 // The power of L for the second index that follows b, from the power for b: it doubles after each eighth.
@@ -173,44 +264,68 @@ pub fn next_power(b: u32, power: [u8; 16]) -> [u8; 16]
     power
 }
 
-// E for a pair whose second index counts up: lines 406 and 408. power is 2^floor((b - 1) / 8)·L for the second index b, which a loop
-// carries along.
-pub fn e_running(k: Key, p: Pair, power: [u8; 16], x: [u8; 16]) -> [u8; 16]
-    requires { ⌜ Running k p power ⌝ }
-    ensures { λ r. ⌜ r ≡ E (blocks k) (rowOf p) (p .2) x ⌝ }
+// Lines 406 and 408: x ⊕ (b mod 8)·J ⊕ power, the multiple of J being read.
+fn masked(m: &[u8; 128], b: u32, power: [u8; 16], x: [u8; 16]) -> [u8; 16]
+    ensures { λ r. ⌜ r ≡ x ⊕ take 16 (drop (16 * (b % 8)) (now (m .entry))) ⊕ power ⌝ }
 {
-    let row = p.1;
-    let j = k.j;
-    let low = block::times((p.2 % 8) as u64, j);
+    let low = multiple(m, b);
     let y = block::xor(x, low);
-    let masked = block::xor(y, power);
-    if row == 1 {
-        let keys = keys1(k);
-        return aes::aes4(keys, masked);
-    }
-    if row == 2 {
-        let keys = keys2(k);
-        return aes::aes4(keys, masked);
-    }
-    under_multiple(k, row_number(row), masked)
+    block::xor(y, power)
 }
 
-// E for a pair whose mask has no power of L: lines 404, 405 and 409.
-pub fn e(k: Key, p: Pair, x: [u8; 16]) -> [u8; 16]
-    requires { ⌜ Plain (rowOf p) (p .2) ⌝ }
-    ensures { λ r. ⌜ r ≡ E (blocks k) (rowOf p) (p .2) x ⌝ }
+// E in rows -1 and 0: lines 404 and 405. m is 0·J to 7·J, of which the mask is one.
+pub fn e(k: Base, m: &[u8; 128], p: Pair, x: [u8; 16]) -> [u8; 16]
+    requires { ⌜ (Plain (rowOf p) (p .2)) × OfJ k (now m) ⌝ }
+    ensures { λ r. ⌜ r ≡ E (base k) (rowOf p) (p .2) x ⌝ }
 {
-    let row = p.1;
-    let number = p.2;
+    let of_j = multiple(m, p.2);
+    let y = block::xor(x, of_j);
     if p.0 {
-        let j = k.j;
-        let mask = block::times(number as u64, j);
-        let y = block::xor(x, mask);
         let keys = keys10(k);
         return aes::aes10(keys, y);
     }
-    if row == 0 {
-        return under_multiple(k, number as u64, x);
+    let keys = keys0(k);
+    aes::aes4(keys, y)
+}
+
+// E in rows 1 and 2, whose numbers count up: line 406. power is 2^floor((b - 1) / 8)·L for the second index b, which a loop carries along.
+pub fn e_running(k: Base, m: &[u8; 128], p: Pair, power: [u8; 16], x: [u8; 16]) -> [u8; 16]
+    requires { ⌜ (Running k p power) × (p .1 ≤ 2) × OfJ k (now m) ⌝ }
+    ensures { λ r. ⌜ r ≡ E (base k) (rowOf p) (p .2) x ⌝ }
+{
+    let y = masked(m, p.2, power, x);
+    if p.1 == 1 {
+        let keys = keys1(k);
+        return aes::aes4(keys, y);
     }
-    under_multiple(k, row_number(row), x)
+    let keys = keys2(k);
+    aes::aes4(keys, y)
+}
+
+// E of a full block in a row from 3 on, whose numbers count up: line 408. mask is the row's multiple of J.
+pub fn e_full(
+    k: Base,
+    m: &[u8; 128],
+    p: Pair,
+    mask: [u8; 16],
+    power: [u8; 16],
+    x: [u8; 16],
+) -> [u8; 16]
+    requires { ⌜ (Hashing k p mask) × (Running k p power) × OfJ k (now m) ⌝ }
+    ensures { λ r. ⌜ r ≡ E (base k) (rowOf p) (p .2) x ⌝ }
+{
+    let y = masked(m, p.2, power, x);
+    let full = block::xor(y, mask);
+    let keys = keys0(k);
+    aes::aes4(keys, full)
+}
+
+// E of a short block in a row from 3 on: line 409.
+pub fn e_short(k: Base, p: Pair, mask: [u8; 16], x: [u8; 16]) -> [u8; 16]
+    requires { ⌜ (Hashing k p mask) × (p .2 ≡ 0) ⌝ }
+    ensures { λ r. ⌜ r ≡ E (base k) (rowOf p) (p .2) x ⌝ }
+{
+    let short = block::xor(x, mask);
+    let keys = keys0(k);
+    aes::aes4(keys, short)
 }

@@ -1,5 +1,5 @@
 // AEZ-tiny of Figure 5 of the AEZ paper, lines 210 to 218: strings of 1 to 31 bytes, enciphered and deciphered in place.
-// A half of n bytes is kept as its n half-bytes, the first n entries of an array.
+// A half of n bytes is kept as its n half-bytes, the first n entries of an array. m is everywhere 0·J to 7·J, taken out of the key once.
 ghost use mathlib.Core.Bool.{false};
 ghost use mathlib.Core.Path.{_≡_};
 ghost use Prim.Native.Nat.{_+_, _*_, _≤_, _<_};
@@ -7,7 +7,7 @@ ghost use lib.ListN.{length, take, drop, getD};
 ghost use Rattle.paper.specs.Strings.{_⊕_};
 ghost use Rattle.paper.specs.Figure6.{E};
 ghost use Rattle.paper.specs.Figure5.{halves, joined, tinyRounds, tinyIndex, encipherTiny, decipherTiny};
-ghost use Rattle.tbc.specs.Meaning.{blocks, pair};
+ghost use Rattle.tbc.specs.Meaning.{blocks, base, Kept, OfJ, pair};
 ghost use Rattle.tiny.specs.HalfBytes.{halfBytes, byteOf, wholeBytes, half10*, halfE, halfTurn, halfTurnsUp, halfTurnsDown, lastBytes};
 ghost use Rattle.tiny.specs.Firsts.{firsts};
 
@@ -119,9 +119,16 @@ fn pair_for(n: usize) -> tbc::Pair
 }
 
 // Line 216: E of turn i, for the right half r.
-fn e_of_turn(k: tbc::Key, delta: [u8; 16], n: usize, i: u64, r: [u8; 32]) -> [u8; 16]
-    requires { ⌜ n ≤ 31 ⌝ }
-    ensures { λ y. ⌜ y ≡ halfE (E (blocks k)) delta (tinyIndex (8 * n)) i (take n r) ⌝ }
+fn e_of_turn(
+    k: tbc::Base,
+    m: &[u8; 128],
+    delta: [u8; 16],
+    n: usize,
+    i: u64,
+    r: [u8; 32],
+) -> [u8; 16]
+    requires { ⌜ (n ≤ 31) × OfJ k (now m) ⌝ }
+    ensures { λ y. ⌜ y ≡ halfE (E (base k)) delta (tinyIndex (8 * n)) i (take n r) ⌝ }
 {
     let p = pair_for(n);
     let h = pad(r, n);
@@ -129,31 +136,31 @@ fn e_of_turn(k: tbc::Key, delta: [u8; 16], n: usize, i: u64, r: [u8; 32]) -> [u8
     let number = block::number(i);
     let numbered = block::xor(x, number);
     let y = block::xor(delta, numbered);
-    tbc::e(k, p, y)
+    tbc::e(k, m, p, y)
 }
 
 // Line 216: turn i.
-fn turn(k: tbc::Key, delta: [u8; 16], n: usize, i: u64, s: Halves) -> Halves
-    requires { ⌜ n ≤ 31 ⌝ }
-    ensures { λ t. ⌜ firsts n t ≡ halfTurn (E (blocks k)) delta n (tinyIndex (8 * n)) i (firsts n s) ⌝ }
+fn turn(k: tbc::Base, m: &[u8; 128], delta: [u8; 16], n: usize, i: u64, s: Halves) -> Halves
+    requires { ⌜ (n ≤ 31) × OfJ k (now m) ⌝ }
+    ensures { λ t. ⌜ firsts n t ≡ halfTurn (E (base k)) delta n (tinyIndex (8 * n)) i (firsts n s) ⌝ }
 {
     let l = s.l;
     let r = s.r;
-    let y = e_of_turn(k, delta, n, i, r);
+    let y = e_of_turn(k, m, delta, n, i, r);
     let sum = add(l, &y, 0, n);
     Halves { l: r, r: sum }
 }
 
 // Line 215: the turns 0, 1, .. for n bytes.
-fn turns_up(k: tbc::Key, delta: [u8; 16], n: usize, s: Halves) -> Halves
-    requires { ⌜ n ≤ 31 ⌝ }
-    ensures { λ t. ⌜ firsts n t ≡ halfTurnsUp (E (blocks k)) delta n (tinyIndex (8 * n)) (tinyRounds (8 * n)) (firsts n s) ⌝ }
+fn turns_up(k: tbc::Base, m: &[u8; 128], delta: [u8; 16], n: usize, s: Halves) -> Halves
+    requires { ⌜ (n ≤ 31) × OfJ k (now m) ⌝ }
+    ensures { λ t. ⌜ firsts n t ≡ halfTurnsUp (E (base k)) delta n (tinyIndex (8 * n)) (tinyRounds (8 * n)) (firsts n s) ⌝ }
 {
     let count = rounds(n);
     let mut t = s;
     let mut i: u64 = 0;
     while i < count {
-        let next = turn(k, delta, n, i, t);
+        let next = turn(k, m, delta, n, i, t);
         t = next;
         i += 1;
     }
@@ -161,15 +168,15 @@ fn turns_up(k: tbc::Key, delta: [u8; 16], n: usize, s: Halves) -> Halves
 }
 
 // Line 215 when deciphering: the turns .., 1, 0.
-fn turns_down(k: tbc::Key, delta: [u8; 16], n: usize, s: Halves) -> Halves
-    requires { ⌜ n ≤ 31 ⌝ }
-    ensures { λ t. ⌜ firsts n t ≡ halfTurnsDown (E (blocks k)) delta n (tinyIndex (8 * n)) (tinyRounds (8 * n)) (firsts n s) ⌝ }
+fn turns_down(k: tbc::Base, m: &[u8; 128], delta: [u8; 16], n: usize, s: Halves) -> Halves
+    requires { ⌜ (n ≤ 31) × OfJ k (now m) ⌝ }
+    ensures { λ t. ⌜ firsts n t ≡ halfTurnsDown (E (base k)) delta n (tinyIndex (8 * n)) (tinyRounds (8 * n)) (firsts n s) ⌝ }
 {
     let mut t = s;
     let mut left = rounds(n);
     while 0 < left {
         left -= 1;
-        let next = turn(k, delta, n, left, t);
+        let next = turn(k, m, delta, n, left, t);
         t = next;
     }
     t
@@ -202,9 +209,9 @@ fn put_joined(t: Halves, s: &mut [u8])
 }
 
 // Line 217, its `if`: the first bit of a string of less than 16 bytes.
-fn last_step(k: tbc::Key, delta: [u8; 16], s: &mut [u8])
-    requires { ⌜ 1 ≤ length (now s) ⌝ }
-    ensures { λ _. ⌜ now (s .exit) ≡ lastBytes (E (blocks k)) delta (now (s .entry)) ⌝ }
+fn last_step(k: tbc::Base, m: &[u8; 128], delta: [u8; 16], s: &mut [u8])
+    requires { ⌜ (1 ≤ length (now s)) × OfJ k (now m) ⌝ }
+    ensures { λ _. ⌜ now (s .exit) ≡ lastBytes (E (base k)) delta (now (s .entry)) ⌝ }
 {
     if 16 <= s.len() {
         return;
@@ -213,30 +220,34 @@ fn last_step(k: tbc::Key, delta: [u8; 16], s: &mut [u8])
     block::copy(&mut x, 0, s);
     x[0] = x[0] | 128;
     let y = block::xor(delta, x);
-    let e = tbc::e(k, tbc::Pair::TINY_LAST, y);
+    let e = tbc::e(k, m, tbc::Pair::TINY_LAST, y);
     s[0] = s[0] ^ (e[0] & 128);
 }
 
 // Lines 210 to 218.
 pub fn encipher(k: tbc::Key, delta: [u8; 16], s: &mut [u8])
-    requires { ⌜ (1 ≤ length (now s)) × (length (now s) ≤ 31) ⌝ }
+    requires { ⌜ (Kept k) × (1 ≤ length (now s)) × (length (now s) ≤ 31) ⌝ }
     ensures { λ _. ⌜ now (s .exit) ≡ encipherTiny (E (blocks k)) delta (now (s .entry)) ⌝ }
 {
+    let b = k.base();
+    let m = k.multiples();
     let n = s.len();
     let both = halves_of(s);
-    let t = turns_up(k, delta, n, both);
+    let t = turns_up(b, &m, delta, n, both);
     put_joined(t, s);
-    last_step(k, delta, s);
+    last_step(b, &m, delta, s);
 }
 
 // Lines 210 to 218 when deciphering: the `if` of line 217 comes first, and the turns count down.
 pub fn decipher(k: tbc::Key, delta: [u8; 16], s: &mut [u8])
-    requires { ⌜ (1 ≤ length (now s)) × (length (now s) ≤ 31) ⌝ }
+    requires { ⌜ (Kept k) × (1 ≤ length (now s)) × (length (now s) ≤ 31) ⌝ }
     ensures { λ _. ⌜ now (s .exit) ≡ decipherTiny (E (blocks k)) delta (now (s .entry)) ⌝ }
 {
+    let b = k.base();
+    let m = k.multiples();
     let n = s.len();
-    last_step(k, delta, s);
+    last_step(b, &m, delta, s);
     let both = halves_of(s);
-    let t = turns_down(k, delta, n, both);
+    let t = turns_down(b, &m, delta, n, both);
     put_joined(t, s);
 }

@@ -1,5 +1,6 @@
 // AEZ-core, in place: enciphering and deciphering a string of 32 bytes or more where it stands.
 // Lines 220 to 240 of Figure 5 of the AEZ paper; deciphering exchanges (0, 1) with (0, 2) and (-1, 1) with (-1, 2).
+// m is everywhere 0·J to 7·J, taken out of the key once.
 ghost use mathlib.Core.List.{_++_};
 ghost use mathlib.Core.Path.{_≡_};
 ghost use Prim.Native.Nat.{_-_, _/_, _<_, _≤_};
@@ -8,7 +9,7 @@ ghost use Rattle.paper.specs.Strings.{_⊕_};
 ghost use Rattle.paper.specs.Section7.{twoTo};
 ghost use Rattle.paper.specs.Figure6.{row, E};
 ghost use Rattle.paper.specs.Figure5.{core};
-ghost use Rattle.tbc.specs.Meaning.{blocks, rowOf, Plain};
+ghost use Rattle.tbc.specs.Meaning.{blocks, base, Kept, OfJ, rowOf, Plain};
 ghost use Rattle.wide.specs.Pairs.{firstX, firstPair, secondY, secondPair, summand, newPair, pairSum, paired};
 ghost use Rattle.wide.specs.Ways.{firstOf, secondOf, endPairs};
 ghost use Rattle.wide.specs.Ends.{sxOf, syOf, cxOf, cyOf};
@@ -61,21 +62,28 @@ struct Sums {
 }
 
 // a ⊕ E(x) at the pair p.
-fn added(k: tbc::Key, p: tbc::Pair, a: [u8; 16], x: [u8; 16]) -> [u8; 16]
-    requires { ⌜ Plain (rowOf p) (p .2) ⌝ }
-    ensures { λ r. ⌜ r ≡ a ⊕ E (blocks k) (rowOf p) (p .2) x ⌝ }
+fn added(k: tbc::Base, m: &[u8; 128], p: tbc::Pair, a: [u8; 16], x: [u8; 16]) -> [u8; 16]
+    requires { ⌜ (Plain (rowOf p) (p .2)) × OfJ k (now m) ⌝ }
+    ensures { λ r. ⌜ r ≡ a ⊕ E (base k) (rowOf p) (p .2) x ⌝ }
 {
-    let e = tbc::e(k, p, x);
+    let e = tbc::e(k, m, p, x);
     block::xor(a, e)
 }
 
 // a ⊕ E(x) at the pair (1, b). power is the power of L for b.
-fn added_at(k: tbc::Key, b: u32, power: [u8; 16], a: [u8; 16], x: [u8; 16]) -> [u8; 16]
-    requires { ⌜ (1 ≤ b) × (power ≡ twoTo ((b - 1) / 8) (k .l)) ⌝ }
-    ensures { λ r. ⌜ r ≡ a ⊕ E (blocks k) (row 1) b x ⌝ }
+fn added_at(
+    k: tbc::Base,
+    m: &[u8; 128],
+    b: u32,
+    power: [u8; 16],
+    a: [u8; 16],
+    x: [u8; 16],
+) -> [u8; 16]
+    requires { ⌜ (1 ≤ b) × (power ≡ twoTo ((b - 1) / 8) (base k .L)) × OfJ k (now m) ⌝ }
+    ensures { λ r. ⌜ r ≡ a ⊕ E (base k) (row 1) b x ⌝ }
 {
     let p = tbc::Pair::A_I.at(b);
-    let e = tbc::e_running(k, p, power, x);
+    let e = tbc::e_running(k, m, p, power, x);
     block::xor(a, e)
 }
 
@@ -89,66 +97,74 @@ fn put_two(part: &mut [u8], a: [u8; 16], b: [u8; 16])
 }
 
 // Line 226: a pair M_i M′_i becomes W_i X_i, and X_i is returned. power is the power of L for the number b of the pair.
-fn first_pair(k: tbc::Key, b: u32, power: [u8; 16], part: &mut [u8]) -> [u8; 16]
-    requires { ⌜ (1 ≤ b) × (length (now part) ≡ 32) × (power ≡ twoTo ((b - 1) / 8) (k .l)) ⌝ }
-    ensures { λ r. ⌜ (r ≡ firstX (E (blocks k)) b (now (part .entry))) × (now (part .exit) ≡ firstPair (E (blocks k)) b (now (part .entry))) ⌝ }
+fn first_pair(k: tbc::Base, m: &[u8; 128], b: u32, power: [u8; 16], part: &mut [u8]) -> [u8; 16]
+    requires { ⌜ (1 ≤ b) × (length (now part) ≡ 32) × (power ≡ twoTo ((b - 1) / 8) (base k .L)) × OfJ k (now m) ⌝ }
+    ensures { λ r. ⌜ (r ≡ firstX (E (base k)) b (now (part .entry))) × (now (part .exit) ≡ firstPair (E (base k)) b (now (part .entry))) ⌝ }
 {
     let left = block::load(part, 0);
     let right = block::load(part, 16);
-    let w = added_at(k, b, power, left, right);
-    let x = added(k, tbc::Pair::A, right, w);
+    let w = added_at(k, m, b, power, left, right);
+    let x = added(k, m, tbc::Pair::A, right, w);
     put_two(part, w, x);
     x
 }
 
 // Lines 232 and 233: a pair W_i X_i becomes C_i C′_i, and Y_i is returned.
-fn second_pair(k: tbc::Key, b: u32, power: [u8; 16], sum: [u8; 16], part: &mut [u8]) -> [u8; 16]
-    requires { ⌜ (1 ≤ b) × (length (now part) ≡ 32) × (power ≡ twoTo ((b - 1) / 8) (k .l)) ⌝ }
-    ensures { λ r. ⌜ (r ≡ secondY (E (blocks k)) sum b (now (part .entry))) × (now (part .exit) ≡ secondPair (E (blocks k)) sum b (now (part .entry))) ⌝ }
+fn second_pair(
+    k: tbc::Base,
+    m: &[u8; 128],
+    b: u32,
+    power: [u8; 16],
+    sum: [u8; 16],
+    part: &mut [u8],
+) -> [u8; 16]
+    requires { ⌜ (1 ≤ b) × (length (now part) ≡ 32) × (power ≡ twoTo ((b - 1) / 8) (base k .L)) × OfJ k (now m) ⌝ }
+    ensures { λ r. ⌜ (r ≡ secondY (E (base k)) sum b (now (part .entry))) × (now (part .exit) ≡ secondPair (E (base k)) sum b (now (part .entry))) ⌝ }
 {
     let p = tbc::Pair::AA_I.at(b);
-    let s = tbc::e_running(k, p, power, sum);
+    let s = tbc::e_running(k, m, p, power, sum);
     let left = block::load(part, 0);
     let right = block::load(part, 16);
     let y = block::xor(left, s);
     let z = block::xor(right, s);
-    let second = added(k, tbc::Pair::A, y, z);
-    let first = added_at(k, b, power, z, second);
+    let second = added(k, m, tbc::Pair::A, y, z);
+    let first = added_at(k, m, b, power, z, second);
     put_two(part, first, second);
     y
 }
 
 // One pair of a pass; what it adds to the pass's sum is returned. sum is S, which the second pass reads.
 fn one_pair(
-    k: tbc::Key,
+    k: tbc::Base,
+    m: &[u8; 128],
     b: u32,
     power: [u8; 16],
     pass: Pass,
     sum: [u8; 16],
     part: &mut [u8],
 ) -> [u8; 16]
-    requires { ⌜ (1 ≤ b) × (length (now part) ≡ 32) × (power ≡ twoTo ((b - 1) / 8) (k .l)) ⌝ }
-    ensures { λ r. ⌜ (r ≡ summand (E (blocks k)) pass sum b (now (part .entry))) × (now (part .exit) ≡ newPair (E (blocks k)) pass sum b (now (part .entry))) ⌝ }
+    requires { ⌜ (1 ≤ b) × (length (now part) ≡ 32) × (power ≡ twoTo ((b - 1) / 8) (base k .L)) × OfJ k (now m) ⌝ }
+    ensures { λ r. ⌜ (r ≡ summand (E (base k)) pass sum b (now (part .entry))) × (now (part .exit) ≡ newPair (E (base k)) pass sum b (now (part .entry))) ⌝ }
 {
     match pass {
-        Pass::First => first_pair(k, b, power, part),
-        Pass::Second => second_pair(k, b, power, sum, part),
+        Pass::First => first_pair(k, m, b, power, part),
+        Pass::Second => second_pair(k, m, b, power, sum, part),
     }
 }
 
 // A pass over every pair: the first makes W_1 X_1 .. W_m X_m of M_1 M′_1 .. M_m M′_m and returns the sum of the X_i, the second makes
 // C_1 C′_1 .. C_m C′_m of that, by the sum S, and returns the sum of the Y_i. The rest stays.
-fn all_pairs(k: tbc::Key, pass: Pass, sum: [u8; 16], s: &mut [u8]) -> [u8; 16]
-    requires { ⌜ (32 ≤ length (now s)) × (length (now s) ≤ 65536) ⌝ }
-    ensures { λ r. ⌜ (r ≡ pairSum (summand (E (blocks k)) pass sum) (now (s .entry))) × (now (s .exit) ≡ paired (newPair (E (blocks k)) pass sum) (now (s .entry))) ⌝ }
+fn all_pairs(k: tbc::Base, m: &[u8; 128], pass: Pass, sum: [u8; 16], s: &mut [u8]) -> [u8; 16]
+    requires { ⌜ (32 ≤ length (now s)) × (length (now s) ≤ 65536) × OfJ k (now m) ⌝ }
+    ensures { λ r. ⌜ (r ≡ pairSum (summand (E (base k)) pass sum) (now (s .entry))) × (now (s .exit) ≡ paired (newPair (E (base k)) pass sum) (now (s .entry))) ⌝ }
 {
     let mut total = [0u8; 16];
-    let mut power = k.l;
+    let mut power = k.power();
     let mut at: usize = 0;
     let mut b: u32 = 1;
     while 64 <= s.len() - at {
         let end = at + 32;
-        let x = one_pair(k, b, power, pass, sum, &mut s[at..end]);
+        let x = one_pair(k, m, b, power, pass, sum, &mut s[at..end]);
         let more = block::xor(total, x);
         total = more;
         let next = tbc::next_power(b, power);
@@ -160,9 +176,9 @@ fn all_pairs(k: tbc::Key, pass: Pass, sum: [u8; 16], s: &mut [u8]) -> [u8; 16]
 }
 
 // Lines 227 to 229: a sum, and what u and v add to it. At 16 bytes v is empty, and its padding is added all the same.
-fn with_uv(k: tbc::Key, total: [u8; 16], uv: &[u8]) -> [u8; 16]
-    requires { ⌜ length (now uv) < 32 ⌝ }
-    ensures { λ r. ⌜ r ≡ withUv (E (blocks k)) total (now (uv .entry)) ⌝ }
+fn with_uv(k: tbc::Base, m: &[u8; 128], total: [u8; 16], uv: &[u8]) -> [u8; 16]
+    requires { ⌜ (length (now uv) < 32) × OfJ k (now m) ⌝ }
+    ensures { λ r. ⌜ r ≡ withUv (E (base k)) total (now (uv .entry)) ⌝ }
 {
     let d = uv.len();
     if d == 0 {
@@ -170,12 +186,12 @@ fn with_uv(k: tbc::Key, total: [u8; 16], uv: &[u8]) -> [u8; 16]
     }
     if d <= 15 {
         let short = block::pad(uv);
-        return added(k, tbc::Pair::U, total, short);
+        return added(k, m, tbc::Pair::U, total, short);
     }
     let u = block::load(uv, 0);
-    let more = added(k, tbc::Pair::U, total, u);
+    let more = added(k, m, tbc::Pair::U, total, u);
     let v = block::pad(&uv[16..d]);
-    added(k, tbc::Pair::V, more, v)
+    added(k, m, tbc::Pair::V, more, v)
 }
 
 // A part of at most 16 bytes, xored with the front of e.
@@ -191,69 +207,86 @@ fn mask(part: &mut [u8], e: [u8; 16])
 }
 
 // Lines 234 to 238: M_u M_v becomes C_u C_v.
-fn mask_uv(k: tbc::Key, sum: [u8; 16], uv: &mut [u8])
-    requires { ⌜ length (now uv) < 32 ⌝ }
-    ensures { λ _. ⌜ now (uv .exit) ≡ uMasked (E (blocks k)) sum (now (uv .entry)) ++ vMasked (E (blocks k)) sum (now (uv .entry)) ⌝ }
+fn mask_uv(k: tbc::Base, m: &[u8; 128], sum: [u8; 16], uv: &mut [u8])
+    requires { ⌜ (length (now uv) < 32) × OfJ k (now m) ⌝ }
+    ensures { λ _. ⌜ now (uv .exit) ≡ uMasked (E (base k)) sum (now (uv .entry)) ++ vMasked (E (base k)) sum (now (uv .entry)) ⌝ }
 {
     let n = uv.len();
     if n == 0 {
         return;
     }
-    let e = tbc::e(k, tbc::Pair::UU, sum);
+    let e = tbc::e(k, m, tbc::Pair::UU, sum);
     if n <= 15 {
         mask(uv, e);
         return;
     }
-    let f = tbc::e(k, tbc::Pair::VV, sum);
+    let f = tbc::e(k, m, tbc::Pair::VV, sum);
     mask(&mut uv[0..16], e);
     mask(&mut uv[16..n], f);
 }
 
 // Line 230: S_x, S_y and S, of the last two blocks and the sum X.
-fn middle(k: tbc::Key, delta: [u8; 16], way: Way, total: [u8; 16], last: &[u8]) -> Sums
-    requires { ⌜ length (now last) ≡ 32 ⌝ }
-    ensures { λ r. ⌜ (r .sx ≡ sxOf (E (blocks k)) delta (firstOf way) total (now (last .entry))) × (r .sy ≡ syOf (E (blocks k)) delta (firstOf way) total (now (last .entry))) × (r .s ≡ r .sx ⊕ r .sy) ⌝ }
+fn middle(
+    k: tbc::Base,
+    m: &[u8; 128],
+    delta: [u8; 16],
+    way: Way,
+    total: [u8; 16],
+    last: &[u8],
+) -> Sums
+    requires { ⌜ (length (now last) ≡ 32) × OfJ k (now m) ⌝ }
+    ensures { λ r. ⌜ (r .sx ≡ sxOf (E (base k)) delta (firstOf way) total (now (last .entry))) × (r .sy ≡ syOf (E (base k)) delta (firstOf way) total (now (last .entry))) × (r .s ≡ r .sx ⊕ r .sy) ⌝ }
 {
     let mx = block::load(last, 0);
     let my = block::load(last, 16);
     let i = pairs_of(way);
     let a = block::xor(mx, delta);
     let b = block::xor(a, total);
-    let sx = added(k, i.x, b, my);
-    let sy = added(k, i.xx, my, sx);
+    let sx = added(k, m, i.x, b, my);
+    let sy = added(k, m, i.xx, my, sx);
     let s = block::xor(sx, sy);
     Sums { sx, sy, s }
 }
 
 // Line 239: C_x C_y put in place of the last two blocks, by S_x, S_y and the sum Y.
-fn put_last(k: tbc::Key, delta: [u8; 16], way: Way, total: [u8; 16], sums: Sums, last: &mut [u8])
-    requires { ⌜ length (now last) ≡ 32 ⌝ }
-    ensures { λ _. ⌜ now (last .exit) ≡ cxOf (E (blocks k)) delta (secondOf way) total (sums .sx) (sums .sy) ++ cyOf (E (blocks k)) delta (secondOf way) total (sums .sx) (sums .sy) ⌝ }
+fn put_last(
+    k: tbc::Base,
+    m: &[u8; 128],
+    delta: [u8; 16],
+    way: Way,
+    total: [u8; 16],
+    sums: Sums,
+    last: &mut [u8],
+)
+    requires { ⌜ (length (now last) ≡ 32) × OfJ k (now m) ⌝ }
+    ensures { λ _. ⌜ now (last .exit) ≡ cxOf (E (base k)) delta (secondOf way) total (sums .sx) (sums .sy) ++ cyOf (E (base k)) delta (secondOf way) total (sums .sx) (sums .sy) ⌝ }
 {
     let sx = sums.sx;
     let sy = sums.sy;
     let i = pairs_of(way);
-    let cy = added(k, i.yy, sx, sy);
+    let cy = added(k, m, i.yy, sx, sy);
     let a = block::xor(sy, delta);
     let b = block::xor(a, total);
-    let cx = added(k, i.y, b, cy);
+    let cx = added(k, m, i.y, b, cy);
     put_two(last, cx, cy);
 }
 
 // Lines 220 to 240, in place: s becomes AEZ-core of it.
 pub fn core_in_place(k: tbc::Key, delta: [u8; 16], way: Way, s: &mut [u8])
-    requires { ⌜ (32 ≤ length (now s)) × (length (now s) ≤ 65536) ⌝ }
+    requires { ⌜ (Kept k) × (32 ≤ length (now s)) × (length (now s) ≤ 65536) ⌝ }
     ensures { λ _. ⌜ now (s .exit) ≡ core (E (blocks k)) delta (firstOf way) (secondOf way) (now (s .entry)) ⌝ }
 {
+    let b = k.base();
+    let m = k.multiples();
     let n = s.len();
     let at = 32 * (n / 32 - 1);
     let last = at + n % 32;
-    let first = all_pairs(k, Pass::First, [0u8; 16], s);
-    let total = with_uv(k, first, &s[at..last]);
-    let sums = middle(k, delta, way, total, &s[last..n]);
+    let first = all_pairs(b, &m, Pass::First, [0u8; 16], s);
+    let total = with_uv(b, &m, first, &s[at..last]);
+    let sums = middle(b, &m, delta, way, total, &s[last..n]);
     let sum = sums.s;
-    mask_uv(k, sum, &mut s[at..last]);
-    let second = all_pairs(k, Pass::Second, sum, s);
-    let all = with_uv(k, second, &s[at..last]);
-    put_last(k, delta, way, all, sums, &mut s[last..n]);
+    mask_uv(b, &m, sum, &mut s[at..last]);
+    let second = all_pairs(b, &m, Pass::Second, sum, s);
+    let all = with_uv(b, &m, second, &s[at..last]);
+    put_last(b, &m, delta, way, all, sums, &mut s[last..n]);
 }

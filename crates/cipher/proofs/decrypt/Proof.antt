@@ -53,10 +53,10 @@ abbrev X : tie.After-cipher-in-place → Bytes
 X c = c .cipher-in-place .last .1 .1 .1 .0
 
 more : (c : tie.Else1) → t (start c) < length (C (start c))
-more c = lt-of-le-ne (omega (arith, start c .pre .0, start c .pre .2)) (λ e. c .if1 .left (sym e))
+more c = lt-of-le-ne (omega (arith, start c .pre .1, start c .pre .3)) (λ e. c .if1 .left (sym e))
 
 put : (c : tie.After-copy) → c .copy .last .0 ≡ C (start (other c))
-put c = let s = start (other c) in put-all (C s) (s .args .out .now) (c .copy .last .0) (c .copy .ensures) (s .pre .0)
+put c = let s = start (other c) in put-all (C s) (s .args .out .now) (c .copy .last .0) (c .copy .ensures) (s .pre .1)
 
 -- what is returned and what is left, by what the comparison found
 answers : (c : tie.After-same-bytes) (b : Bool) → c .same-bytes .result ≡ b
@@ -68,7 +68,7 @@ answers c b e =
     let d = deciphered c in
     let s = entry d in
     let mid = copied d .copy .last .0 in
-    answer (f s) (s .args .delta) (t s) (C s) mid (X d) (put (copied d)) (d .cipher-in-place .ensures) (d .cipher-in-place .kept .1 .1 .1 .0) (more (other (copied d))) (c .same-bytes .result) b e (s .pre .3) (c .same-bytes .ensures)
+    answer (f s) (s .args .delta) (t s) (C s) mid (X d) (put (copied d)) (d .cipher-in-place .ensures) (d .cipher-in-place .kept .1 .1 .1 .0) (more (other (copied d))) (c .same-bytes .result) b e (s .pre .4) (c .same-bytes .ensures)
 
 decrypt-empty-requires : tie.Need-decrypt-empty-requires
 decrypt-empty-requires c κs = search needs
@@ -80,7 +80,7 @@ returns : tie.Need-returns
 returns c =
     let d = c .before .before in
     let s = equal d .before .before .before in
-    empty-answer (f s) (s .args .delta) (t s) (C s) (d .decrypt-empty .result) (length (s .args .out .now)) (d .decrypt-empty .last .1 .1 .1 .0) (equal d .if1 .taken) (s .pre .0) (d .decrypt-empty .ensures .0) (d .decrypt-empty .ensures .1)
+    empty-answer (f s) (s .args .delta) (t s) (C s) (d .decrypt-empty .result) (length (s .args .out .now)) (d .decrypt-empty .last .1 .1 .1 .0) (equal d .if1 .taken) (s .pre .1) (d .decrypt-empty .ensures .0) (d .decrypt-empty .ensures .1)
 
 copy-requires : tie.Need-copy-requires
 copy-requires c κs = search needs

@@ -41,7 +41,7 @@ returns c =
     let same = compared cleared .same-bytes in
     let fill = filled (compared cleared) .prf in
     let s = start (filled (compared cleared)) in (
-      empty-opens (E (blocks (s .args .k))) (s .args .delta) (length (C s)) (C s) (fill .last .1 .1 .0) (length (s .args .out .now)) (same .result) refl (s .pre .0) (fill .ensures) (same .ensures),
+      empty-opens (E (blocks (s .args .k))) (s .args .delta) (length (C s)) (C s) (fill .last .1 .1 .0) (length (s .args .out .now)) (same .result) refl (s .pre .1) (fill .ensures) (same .ensures),
       cleared .clear .ensures ∙ ap (λ (n : ℕ). replicate n 0) (fill .kept .1 .1 .0),
     )
 

@@ -70,7 +70,7 @@ returns-2 c =
     let copy = copied (cleared sealed) .copy in
     let some = some-text (copied (cleared sealed)) in
     let s = some .before .before .before in
-    seals-some (f s) (s .args .delta) (M s) (out s) (copy .last .0) (clear .last .0) (sealed .cipher-in-place .last .1 .1 .1 .0) (s .pre .0) (some .if1 .left) (copy .ensures) (clear .ensures) (sealed .cipher-in-place .ensures)
+    seals-some (f s) (s .args .delta) (M s) (out s) (copy .last .0) (clear .last .0) (sealed .cipher-in-place .last .1 .1 .1 .0) (s .pre .1) (some .if1 .left) (copy .ensures) (clear .ensures) (sealed .cipher-in-place .ensures)
 
 pub encrypt-spec : {M : Type 1} → statement M
 encrypt-spec =

@@ -137,7 +137,8 @@ string-hash-requires-2 : tie.Need-string-hash-requires-2 Inv-loop μ-loop
 string-hash-requires-2 c κs =
     let w = is-within (c .before .before) in
     let l = looped (c .before .before) .loop in
-    (omega (arith, l .inv .1), (omega (arith, l .inv .1), simp (length-take, length-drop) (omega (arith, w .0, w .1, w .2))))
+    let s = looped (c .before .before) in
+    (entered (counted (s .before)) .pre, omega (arith, l .inv .1), omega (arith, l .inv .1), simp (length-take, length-drop) (omega (arith, w .0, w .1, w .2)))
 
 xor-requires : tie.Need-xor-requires Inv-loop μ-loop
 xor-requires c κs = search needs

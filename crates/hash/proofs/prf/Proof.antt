@@ -5,40 +5,52 @@ use native.Mathlib.Omega.{arith}
 use borrow.Author.Needs.{needs}
 use lib.ListN.{length}
 use Rattle.paper.specs.Strings.{Bytes, _⊕_, number}
+use Rattle.paper.specs.Figure6 as figure6
 use Rattle.paper.specs.Figure6.{minus1, E, prfFrom}
-use Rattle.tbc.specs.declared.Key.{Key}
-use Rattle.tbc.specs.Meaning.{blocks}
+use Rattle.tbc.specs.declared.Base.{Base}
+use Rattle.tbc.specs.Meaning.{base, blocks}
+use Rattle.tbc.proofs.Keys.{of-j}
 use Rattle.hash.proofs.Fitting.{Filled, filled-none, filled-more, filled-all}
 use Rattle.hash.proofs.prf.Statement.{statement}
 use Rattle.hash.proofs.prf.Tie as tie
 
 -- line 312: block i, counted from 1
-abbrev F : Key → Bytes → ℕ → Bytes
-F k delta i = E (blocks k) minus1 3 (delta ⊕ number (i - 1))
+abbrev F : Base → Bytes → ℕ → Bytes
+F b delta i = E (base b) minus1 3 (delta ⊕ number (i - 1))
 
 abbrev Inv-loop : tie.InvT-loop
-Inv-loop k delta out₀ at₀ i₀ out at i = Filled (F k delta) (length out₀) out at i
+Inv-loop delta out₀ b m at₀ i₀ out at i = Filled (F b delta) (length out₀) out at i
 
 abbrev μ-loop : tie.MeasureT-loop
-μ-loop k delta out₀ at₀ i₀ out at i = length out₀ + 16 - at
+μ-loop delta out₀ b m at₀ i₀ out at i = length out₀ + 16 - at
+
+abbrev taken : tie.At-loop Inv-loop μ-loop → tie.After-base Inv-loop μ-loop
+taken c = c .before .before
 
 abbrev start : tie.At-loop Inv-loop μ-loop → tie.Start Inv-loop μ-loop
-start c = c .before .before
+start c = taken c .before .before
 
 abbrev looped : tie.After-e Inv-loop μ-loop → tie.At-loop Inv-loop μ-loop
-looped c = c .before .before .before .before
+looped c = c .before .before .before .before .before
 
 -- the block that E gave
-is-next : (c : tie.After-e Inv-loop μ-loop) → c .e .result ≡ F (start (looped c) .args .k) (start (looped c) .args .delta) (looped c .loop .i + 1)
+is-next : (c : tie.After-e Inv-loop μ-loop) → c .e .result ≡ F (taken (looped c) .base .result) (start (looped c) .args .delta) (looped c .loop .i + 1)
 is-next c =
     let i = looped c .loop .i in
     let a = start (looped c) .args in
     let next : i ≡ i + 1 - 1 = omega arith in
-    let mask = c .before .xor .ensures ∙ ap (λ (u : Bytes). a .delta ⊕ u) (c .before .before .number .ensures ∙ ap number next) in
-    c .e .ensures ∙ ap (E (blocks (a .k)) minus1 3) mask
+    let x = c .before .before in
+    let mask = x .xor .ensures ∙ ap (λ (u : Bytes). a .delta ⊕ u) (x .before .number .ensures ∙ ap number next) in
+    c .e .ensures ∙ ap (E (base (taken (looped c) .base .result)) minus1 3) mask
+
+base-requires : tie.Need-base-requires Inv-loop μ-loop
+base-requires c κs = search needs
+
+multiples-requires : tie.Need-multiples-requires Inv-loop μ-loop
+multiples-requires c κs = search needs
 
 loop-holds : tie.Need-loop-holds Inv-loop μ-loop
-loop-holds c = let a = c .before .args in filled-none (F (a .k) (a .delta)) (a .out .now)
+loop-holds c = let a = c .before .before .before .args in filled-none (F (c .before .base .result) (a .delta)) (a .out .now)
 
 number-requires : tie.Need-number-requires Inv-loop μ-loop
 number-requires c κs = search needs
@@ -47,7 +59,11 @@ xor-requires : tie.Need-xor-requires Inv-loop μ-loop
 xor-requires c κs = search needs
 
 e-requires : tie.Need-e-requires Inv-loop μ-loop
-e-requires c κs = search needs
+e-requires c κs =
+    let l = c .before .before .before .before in
+    let b = taken l .base in
+    let m = l .before .multiples in
+    (omega arith, of-j (start l .args .k) (b .result) (m .result) (b .ensures) (m .ensures))
 
 sub-put-front : tie.Need-sub-put-front Inv-loop μ-loop
 sub-put-front c = search needs
@@ -81,7 +97,11 @@ same-length c = c .before .loop .inv .long
 
 returns : tie.Need-returns Inv-loop μ-loop
 unfolding prfFrom
-returns c = filled-all (c .before .loop .inv) (omega arith)
+returns c =
+    let l = c .before in
+    let a = start l .args in
+    filled-all (l .loop .inv) (omega arith)
+    ∙ ap (λ (K : figure6.Key). prfFrom (E K) (a .delta) (length (a .out .now))) (taken l .base .ensures)
 
 pub prf-spec : {M : Type 1} → statement M
 prf-spec =
@@ -89,6 +109,8 @@ prf-spec =
     (tie.spec
     Inv-loop
     μ-loop
+    base-requires
+    multiples-requires
     loop-holds
     number-requires
     xor-requires

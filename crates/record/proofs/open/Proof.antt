@@ -37,7 +37,7 @@ answers w =
     let n = e .before .before .settled-opening in
     let a = start (e .before .before) .args in
     let k = d .before .before .key-of in
-    opens-by (a .key .now) (a .header .now) (a .out .now) (w .decrypt .last .1 .1 .1 .1 .0) (a .stretch .0) (blocks (k .result)) (k .ensures) (d .before .bits .result .0) (d .before .bits .ensures) (d .delta .result) (d .delta .ensures)
+    opens-by (a .key .now) (a .header .now) (a .out .now) (w .decrypt .last .1 .1 .1 .1 .0) (a .stretch .0) (blocks (k .result)) (k .ensures .0) (d .before .bits .result .0) (d .before .bits .ensures) (d .delta .result) (d .delta .ensures)
     (a .sealed .now) (n .result) (n .ensures) (e .if1 .left) (w .decrypt .result) (w .decrypt .ensures .0) (w .decrypt .ensures .1) (w .decrypt .kept .1 .1 .1 .1 .0)
 
 settled-opening-requires : tie.Need-settled-opening-requires
@@ -72,7 +72,8 @@ decrypt-requires c κs =
     let e = settled (c .before) in
     let a = start (e .before .before) .args in
     let long = lent-long (a .out .now) (length (a .sealed .now)) (fits e .has-room) in
-    (sym long, omega (arith, long, fits e .within), omega (arith, long, fits e .least), fits e .common .short)
+    let kept = c .before .before .before .key-of .ensures .1 in
+    (kept, sym long, omega (arith, long, fits e .within), omega (arith, long, fits e .least), fits e .common .short)
 
 sub-t19 : tie.Need-sub-t19
 sub-t19 c = omega (arith, fits (settled (keyed (c .before .before .before))) .least)

@@ -45,7 +45,7 @@ delta-requires : tie.Need-delta-requires
 delta-requires c κs = search needs
 
 add-length : tie.Need-add-length
-add-length c = search needs
+add-length c = omega (arith, fits (settled c) .within)
 
 sub-encrypt : tie.Need-sub-encrypt
 sub-encrypt c = search needs
@@ -61,7 +61,8 @@ encrypt-requires c κs =
     let e = settled (c .before) in
     let a = start (e .before .before) .args in
     let long = lent-long (a .out .now) (length (a .text .now) + a .stretch .0) (fits e .has-room) in
-    (omega (arith, long), omega (arith, long, fits e .within), omega (arith, long, fits e .common .short))
+    let kept = c .before .before .before .key-of .ensures .1 in
+    (kept, omega (arith, long), omega (arith, long, fits e .within), omega (arith, long, fits e .common .short))
 
 same-length : tie.Need-same-length
 same-length c = search needs
@@ -74,7 +75,7 @@ returns-2 c =
     let n = e .before .before .settled-sealing in
     let a = start (e .before .before) .args in
     let k = d .before .before .key-of in
-    seals (a .key .now) (a .header .now) (a .out .now) (w .encrypt .last .1 .1 .1 .0) (a .stretch .0) (blocks (k .result)) (k .ensures) (d .before .bits .result .0) (d .before .bits .ensures) (d .delta .result) (d .delta .ensures)
+    seals (a .key .now) (a .header .now) (a .out .now) (w .encrypt .last .1 .1 .1 .0) (a .stretch .0) (blocks (k .result)) (k .ensures .0) (d .before .bits .result .0) (d .before .bits .ensures) (d .delta .result) (d .delta .ensures)
     (a .text .now) (n .result) (n .ensures) (e .if1 .left) (w .encrypt .ensures) (w .encrypt .kept .1 .1 .1 .0)
 
 pub seal-spec : {M : Type 1} → statement M

@@ -7,7 +7,7 @@ use Rattle.paper.specs.Strings.{Bytes, _⊕_}
 use Rattle.paper.specs.Figure6.{row, E}
 use Rattle.paper.specs.Figure5.{tinyIndex}
 use Rattle.tiny.specs.HalfBytes.{wholeBytes, halfE}
-use Rattle.tbc.specs.Meaning.{blocks}
+use Rattle.tbc.specs.Meaning.{base}
 use Rattle.tbc.proofs.Pairs.{at-pair, plain}
 use Rattle.tiny.proofs.Indices.{index-le}
 use Rattle.tiny.proofs.e_of_turn.Statement.{statement}
@@ -43,8 +43,9 @@ xor-requires-2 c κs = search needs
 
 e-requires : tie.Need-e-requires
 e-requires c κs =
-    let m = 8 * start (c .before) .args .n in
-    plain _ false 0 (tinyIndex m) (paired (packed (c .before)) .pair-for .ensures) (index-le m)
+    let s = start (c .before) in
+    let n = 8 * s .args .n in
+    (plain _ false 0 (tinyIndex n) (paired (packed (c .before)) .pair-for .ensures) (index-le n), s .pre .1)
 
 returns : tie.Need-returns
 unfolding halfE
@@ -55,8 +56,8 @@ returns c =
     let x = pk .pack .ensures ∙ ap wholeBytes (pk .before .pad .ensures) in
     let y = c .before .xor2 .ensures ∙ ap (λ (Y : Bytes). a .delta ⊕ Y) (sum .xor .ensures ∙ ap₂ _⊕_ x (sum .before .number .ensures)) in
     c .e .ensures
-    ∙ at-pair _ false 0 (tinyIndex (8 * a .n)) (paired pk .pair-for .ensures) (blocks (a .k)) _
-    ∙ ap (E (blocks (a .k)) (row 0) (tinyIndex (8 * a .n))) y
+    ∙ at-pair _ false 0 (tinyIndex (8 * a .n)) (paired pk .pair-for .ensures) (base (a .k)) _
+    ∙ ap (E (base (a .k)) (row 0) (tinyIndex (8 * a .n))) y
 
 pub e-of-turn-spec : {M : Type 1} → statement M
 e-of-turn-spec =

@@ -9,7 +9,7 @@ use lib.ListN.{length, drop, replicate}
 use Rattle.paper.specs.Strings.{zeroFill}
 use Rattle.paper.specs.Figure6.{row, E}
 use Rattle.laws.proofs.Padding.{fill-over}
-use Rattle.tbc.specs.Meaning.{blocks}
+use Rattle.tbc.specs.Meaning.{base}
 use Rattle.tiny.proofs.FirstByte.{last-long, last-short}
 use Rattle.tiny.proofs.last_step.Statement.{statement}
 use Rattle.tiny.proofs.last_step.Tie as tie
@@ -30,7 +30,7 @@ filled c =
 returns : tie.Need-returns
 returns c =
     let a = c .before .before .args in
-    last-long (E (blocks (a .k))) (a .delta) (a .s .now) (c .if1 .taken)
+    last-long (E (base (a .k))) (a .delta) (a .s .now) (c .if1 .taken)
 
 slice-aggregate-copy : tie.Need-slice-aggregate-copy
 slice-aggregate-copy c = search needs
@@ -66,8 +66,8 @@ returns-2 : tie.Need-returns-2
 returns-2 c =
     let a = start (copied c) .args in
     let e = c .before .e in
-    last-short (E (blocks (a .k))) (a .delta) (a .s .now) (copied c .copy .last .0) (e .result) (omega arith) (omega arith) (filled (copied c))
-    (e .ensures ∙ ap (E (blocks (a .k)) (row 0) 3) (c .before .before .xor .ensures)) (search needs)
+    last-short (E (base (a .k))) (a .delta) (a .s .now) (copied c .copy .last .0) (e .result) (omega arith) (omega arith) (filled (copied c))
+    (e .ensures ∙ ap (E (base (a .k)) (row 0) 3) (c .before .before .xor .ensures)) (search needs)
 
 pub last-step-spec : {M : Type 1} → statement M
 last-step-spec =

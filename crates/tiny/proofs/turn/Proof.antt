@@ -4,7 +4,7 @@ use borrow.Author.Needs.{needs}
 use lib.ListN.{take}
 use Rattle.paper.specs.Figure6.{E}
 use Rattle.paper.specs.Figure5.{tinyIndex}
-use Rattle.tbc.specs.Meaning.{blocks}
+use Rattle.tbc.specs.Meaning.{base}
 use Rattle.tiny.proofs.AllTurns.{one-turn}
 use Rattle.tiny.proofs.turn.Statement.{statement}
 use Rattle.tiny.proofs.turn.Tie as tie
@@ -25,7 +25,7 @@ returns : tie.Need-returns
 returns c =
     let at-e = c .before .before in
     let a = start at-e .args in
-    one-turn (E (blocks (a .k))) (a .delta) (a .n) (tinyIndex (8 * a .n)) (a .i) (take (a .n) (a .s .l)) (take (a .n) (a .s .r)) _ _
+    one-turn (E (base (a .k))) (a .delta) (a .n) (tinyIndex (8 * a .n)) (a .i) (take (a .n) (a .s .l)) (take (a .n) (a .s .r)) _ _
     (at-e .e-of-turn .ensures) (c .add .ensures)
 
 pub turn-spec : {M : Type 1} → statement M

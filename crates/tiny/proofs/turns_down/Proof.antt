@@ -5,7 +5,7 @@ use native.Mathlib.Omega.{arith}
 use borrow.Author.Needs.{needs}
 use Rattle.paper.specs.Figure6.{E}
 use Rattle.paper.specs.Figure5.{tinyIndex}
-use Rattle.tbc.specs.Meaning.{blocks}
+use Rattle.tbc.specs.Meaning.{base}
 use Rattle.tiny.specs.HalfBytes.{halfTurnsDown}
 use Rattle.tiny.specs.Firsts.{firsts}
 use Rattle.tiny.proofs.AllTurns.{down-none, down-more}
@@ -13,11 +13,11 @@ use Rattle.tiny.proofs.turns_down.Statement.{statement}
 use Rattle.tiny.proofs.turns_down.Tie as tie
 
 abbrev Inv-loop : tie.InvT-loop
-Inv-loop k delta n t₀ left₀ t left =
-    halfTurnsDown (E (blocks k)) delta n (tinyIndex (8 * n)) left (firsts n t) ≡ halfTurnsDown (E (blocks k)) delta n (tinyIndex (8 * n)) left₀ (firsts n t₀)
+Inv-loop k m delta n t₀ left₀ t left =
+    halfTurnsDown (E (base k)) delta n (tinyIndex (8 * n)) left (firsts n t) ≡ halfTurnsDown (E (base k)) delta n (tinyIndex (8 * n)) left₀ (firsts n t₀)
 
 abbrev μ-loop : tie.MeasureT-loop
-μ-loop k delta n t₀ left₀ t left = left
+μ-loop k m delta n t₀ left₀ t left = left
 
 abbrev start : tie.At-loop Inv-loop μ-loop → tie.Start Inv-loop μ-loop
 start c = c .before .before
@@ -41,13 +41,13 @@ loop-again : tie.Need-loop-again Inv-loop μ-loop
 loop-again c =
     let k = c .before .before in
     let a = start k .args in
-    down-more (E (blocks (a .k))) (a .delta) (a .n) (tinyIndex (8 * a .n)) (k .loop .left) (firsts (a .n) (k .loop .t)) _ _ (c .before .loop-test .taken) (k .loop .inv) (c .turn .ensures)
+    down-more (E (base (a .k))) (a .delta) (a .n) (tinyIndex (8 * a .n)) (k .loop .left) (firsts (a .n) (k .loop .t)) _ _ (c .before .loop-test .taken) (k .loop .inv) (c .turn .ensures)
 
 returns : tie.Need-returns Inv-loop μ-loop
 returns c =
     let k = c .before in
     let a = start k .args in
-    let f = E (blocks (a .k)) in
+    let f = E (base (a .k)) in
     let j : ℕ = tinyIndex (8 * a .n) in
     let done : 0 ≡ k .loop .left = omega arith in
     down-none f (a .delta) (a .n) j (firsts (a .n) (k .loop .t)) _

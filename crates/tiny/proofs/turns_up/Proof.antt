@@ -5,7 +5,7 @@ use native.Mathlib.Omega.{arith}
 use borrow.Author.Needs.{needs}
 use Rattle.paper.specs.Figure6.{E}
 use Rattle.paper.specs.Figure5.{tinyIndex}
-use Rattle.tbc.specs.Meaning.{blocks}
+use Rattle.tbc.specs.Meaning.{base}
 use Rattle.tiny.specs.HalfBytes.{halfTurnsUp}
 use Rattle.tiny.specs.Firsts.{firsts}
 use Rattle.tiny.proofs.AllTurns.{up-none, up-more}
@@ -13,10 +13,10 @@ use Rattle.tiny.proofs.turns_up.Statement.{statement}
 use Rattle.tiny.proofs.turns_up.Tie as tie
 
 abbrev Inv-loop : tie.InvT-loop
-Inv-loop k delta n count t₀ i₀ t i = (i ≤ count) × (firsts n t ≡ halfTurnsUp (E (blocks k)) delta n (tinyIndex (8 * n)) i (firsts n t₀))
+Inv-loop k m delta n count t₀ i₀ t i = (i ≤ count) × (firsts n t ≡ halfTurnsUp (E (base k)) delta n (tinyIndex (8 * n)) i (firsts n t₀))
 
 abbrev μ-loop : tie.MeasureT-loop
-μ-loop k delta n count t₀ i₀ t i = count - i
+μ-loop k m delta n count t₀ i₀ t i = count - i
 
 abbrev start : tie.At-loop Inv-loop μ-loop → tie.Start Inv-loop μ-loop
 start c = c .before .before
@@ -27,7 +27,7 @@ rounds-requires c κs = search needs
 loop-holds : tie.Need-loop-holds Inv-loop μ-loop
 loop-holds c =
     let a = c .before .args in
-    (omega arith, up-none (E (blocks (a .k))) (a .delta) (a .n) (tinyIndex (8 * a .n)) (firsts (a .n) (a .s)))
+    (omega arith, up-none (E (base (a .k))) (a .delta) (a .n) (tinyIndex (8 * a .n)) (firsts (a .n) (a .s)))
 
 turn-requires : tie.Need-turn-requires Inv-loop μ-loop
 turn-requires c κs = search needs
@@ -42,7 +42,7 @@ loop-again : tie.Need-loop-again Inv-loop μ-loop
 loop-again c =
     let k = c .before .before in
     let a = start k .args in
-    (omega arith, up-more (E (blocks (a .k))) (a .delta) (a .n) (tinyIndex (8 * a .n)) (k .loop .i) (firsts (a .n) (a .s)) _ _ (k .loop .inv .1) (c .turn .ensures))
+    (omega arith, up-more (E (base (a .k))) (a .delta) (a .n) (tinyIndex (8 * a .n)) (k .loop .i) (firsts (a .n) (a .s)) _ _ (k .loop .inv .1) (c .turn .ensures))
 
 returns : tie.Need-returns Inv-loop μ-loop
 returns c =
@@ -50,7 +50,7 @@ returns c =
     let a = start k .args in
     let done : k .loop .i ≡ k .before .rounds .result = omega arith in
     k .loop .inv .1
-    ∙ ap (λ (i : ℕ). halfTurnsUp (E (blocks (a .k))) (a .delta) (a .n) (tinyIndex (8 * a .n)) i (firsts (a .n) (a .s))) (done ∙ k .before .rounds .ensures)
+    ∙ ap (λ (i : ℕ). halfTurnsUp (E (base (a .k))) (a .delta) (a .n) (tinyIndex (8 * a .n)) i (firsts (a .n) (a .s))) (done ∙ k .before .rounds .ensures)
 
 pub turns-up-spec : {M : Type 1} → statement M
 turns-up-spec =

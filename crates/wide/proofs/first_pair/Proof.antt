@@ -2,7 +2,7 @@
 use mathlib.Core.Path.{_∙_}
 use borrow.Author.Needs.{needs}
 use Rattle.paper.specs.Figure6.{E}
-use Rattle.tbc.specs.Meaning.{blocks}
+use Rattle.tbc.specs.Meaning.{base}
 use Rattle.wide.proofs.Steps.{first-made}
 use Rattle.wide.proofs.first_pair.Statement.{statement}
 use Rattle.wide.proofs.first_pair.Tie as tie
@@ -33,7 +33,7 @@ returns c =
     let right : tie.After-load2 = w .before in
     let left : tie.After-load = right .before .before in
     let a = left .before .before .before .args in
-    let made = first-made (E (blocks (a .k))) (a .b) (a .part .now) (left .load .result) (right .load2 .result) (left .load .ensures) (right .load2 .ensures) (w .added-at .result) (x .added .result) (w .added-at .ensures) (x .added .ensures) in
+    let made = first-made (E (base (a .k))) (a .b) (a .part .now) (left .load .result) (right .load2 .result) (left .load .ensures) (right .load2 .ensures) (w .added-at .result) (x .added .result) (w .added-at .ensures) (x .added .ensures) in
     (made .0, put .put-two .ensures ∙ made .1)
 
 pub first-pair-spec : {M : Type 1} → statement M

@@ -7,7 +7,7 @@ use borrow.Author.Needs.{needs}
 use lib.ListN.{length}
 use lib.Seq.{length-take-le}
 use Rattle.paper.specs.Figure6.{E}
-use Rattle.tbc.specs.Meaning.{blocks}
+use Rattle.tbc.specs.Meaning.{base}
 use Rattle.wide.proofs.UvParts.{masked-none, masked-short, masked-both}
 use Rattle.wide.proofs.mask_uv.Statement.{statement}
 use Rattle.wide.proofs.mask_uv.Tie as tie
@@ -18,7 +18,7 @@ start c = c .before .before .before
 returns : tie.Need-returns
 returns c =
     let a = c .before .before .args in
-    masked-none (E (blocks (a .k))) (a .sum) (a .uv .now) (c .if1 .taken)
+    masked-none (E (base (a .k))) (a .sum) (a .uv .now) (c .if1 .taken)
 
 e-requires : tie.Need-e-requires
 e-requires c κs = search needs
@@ -35,7 +35,7 @@ returns-2 c =
     let short : tie.Then2 = mask .before .before in
     let e : tie.After-e = short .before in
     let a = start e .args in
-    masked-short (E (blocks (a .k))) (a .sum) (a .uv .now) (e .before .if1 .left) (short .if2 .taken) (e .e .result) (mask .mask .last .0) (e .e .ensures) (mask .mask .ensures)
+    masked-short (E (base (a .k))) (a .sum) (a .uv .now) (e .before .if1 .left) (short .if2 .taken) (e .e .result) (mask .mask .last .0) (e .e .ensures) (mask .mask .ensures)
 
 e-requires-2 : tie.Need-e-requires-2
 e-requires-2 c κs = search needs
@@ -76,7 +76,7 @@ returns-3 c =
     let a = start e .args in
     let t : List ℕ = a .uv .now in
     let long : length (u .mask2 .last .0) ≡ 16 = u .mask2 .kept .0 ∙ length-take-le 16 t (omega arith) in
-    masked-both (E (blocks (a .k))) (a .sum) t (f .before .if2 .left) (length t - 16) (e .e .result) (f .e2 .result) (u .mask2 .last .0) (v .mask3 .last .0) refl (e .e .ensures) (f .e2 .ensures) long (u .mask2 .ensures) (v .mask3 .ensures)
+    masked-both (E (base (a .k))) (a .sum) t (f .before .if2 .left) (length t - 16) (e .e .result) (f .e2 .result) (u .mask2 .last .0) (v .mask3 .last .0) refl (e .e .ensures) (f .e2 .ensures) long (u .mask2 .ensures) (v .mask3 .ensures)
 
 pub mask-uv-spec : {M : Type 1} → statement M
 mask-uv-spec =

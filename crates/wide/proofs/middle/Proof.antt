@@ -1,7 +1,7 @@
 -- `wide::middle` meets its contract.
 use borrow.Author.Needs.{needs}
 use Rattle.paper.specs.Figure6.{E}
-use Rattle.tbc.specs.Meaning.{blocks}
+use Rattle.tbc.specs.Meaning.{base}
 use Rattle.wide.specs.Ways.{firstOf}
 use Rattle.wide.specs.declared.EndPairs.{EndPairs}
 use Rattle.wide.proofs.Indices.{first-small, plain-of, added-of}
@@ -33,14 +33,16 @@ xor-requires-2 c κs = search needs
 added-requires : tie.Need-added-requires
 added-requires c κs =
     let i : tie.After-pairs-of = indices c in
-    let way = start i .args .way in
-    plain-of way (i .pairs-of .result) (i .pairs-of .ensures) (λ (e : EndPairs). e .x) (first-small way)
+    let s = start i in
+    let way = s .args .way in
+    (plain-of way (i .pairs-of .result) (i .pairs-of .ensures) (λ (e : EndPairs). e .x) (first-small way), s .pre .1)
 
 added-requires-2 : tie.Need-added-requires-2
 added-requires-2 c κs =
     let i : tie.After-pairs-of = indices (c .before) in
-    let way = start i .args .way in
-    plain-of way (i .pairs-of .result) (i .pairs-of .ensures) (λ (e : EndPairs). e .xx) (first-small way)
+    let s = start i in
+    let way = s .args .way in
+    (plain-of way (i .pairs-of .result) (i .pairs-of .ensures) (λ (e : EndPairs). e .xx) (first-small way), s .pre .1)
 
 xor-requires-3 : tie.Need-xor-requires-3
 xor-requires-3 c κs = search needs
@@ -55,7 +57,7 @@ returns c =
     let my : tie.After-load2 = i .before in
     let mx : tie.After-load = my .before in
     let s = start i .args in
-    let K = blocks (s .k) in
+    let K = base (s .k) in
     let made =
     middle-made (E K) (s .delta) (firstOf (s .way)) (s .total) (s .last .now)
     (mx .load .result) (my .load2 .result) (a .xor .result) (b .xor2 .result) (sx .added .result) (sy .added2 .result)

@@ -2,7 +2,7 @@
 use mathlib.Core.Path.{_∙_}
 use borrow.Author.Needs.{needs}
 use Rattle.paper.specs.Figure6.{E}
-use Rattle.tbc.specs.Meaning.{blocks}
+use Rattle.tbc.specs.Meaning.{base}
 use Rattle.wide.specs.Ways.{secondOf}
 use Rattle.wide.specs.declared.EndPairs.{EndPairs}
 use Rattle.wide.proofs.Indices.{second-small, plain-of, added-of}
@@ -18,8 +18,9 @@ pairs-of-requires c κs = search needs
 
 added-requires : tie.Need-added-requires
 added-requires c κs =
-    let way = start c .args .way in
-    plain-of way (c .pairs-of .result) (c .pairs-of .ensures) (λ (e : EndPairs). e .yy) (second-small way)
+    let s = start c in
+    let way = s .args .way in
+    (plain-of way (c .pairs-of .result) (c .pairs-of .ensures) (λ (e : EndPairs). e .yy) (second-small way), s .pre .1)
 
 xor-requires : tie.Need-xor-requires
 xor-requires c κs = search needs
@@ -30,8 +31,9 @@ xor-requires-2 c κs = search needs
 added-requires-2 : tie.Need-added-requires-2
 added-requires-2 c κs =
     let i : tie.After-pairs-of = c .before .before .before in
-    let way = start i .args .way in
-    plain-of way (i .pairs-of .result) (i .pairs-of .ensures) (λ (e : EndPairs). e .y) (second-small way)
+    let s = start i in
+    let way = s .args .way in
+    (plain-of way (i .pairs-of .result) (i .pairs-of .ensures) (λ (e : EndPairs). e .y) (second-small way), s .pre .1)
 
 put-two-requires : tie.Need-put-two-requires
 put-two-requires c κs = search needs
@@ -48,7 +50,7 @@ returns c =
     let cy : tie.After-added = a .before in
     let i : tie.After-pairs-of = cy .before in
     let s = start i .args in
-    let K = blocks (s .k) in
+    let K = base (s .k) in
     put .put-two .ensures
     ∙ last-made (E K) (s .delta) (secondOf (s .way)) (s .total) (s .sums .sx) (s .sums .sy)
     (cy .added .result) (a .xor .result) (b .xor2 .result) (cx .added2 .result)

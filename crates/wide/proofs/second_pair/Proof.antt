@@ -1,9 +1,11 @@
 -- `wide::second_pair` meets its contract.
-use mathlib.Core.Path.{_∙_}
+use mathlib.Core.Path.{ap, _∙_}
+use Prim.Native.Nat.{_≤_}
 use native.Mathlib.Omega.{arith}
 use borrow.Author.Needs.{needs}
 use Rattle.paper.specs.Figure6.{E}
-use Rattle.tbc.specs.Meaning.{blocks}
+use Rattle.tbc.specs.Meaning.{base}
+use Rattle.tbc.specs.declared.Pair.{Pair}
 use Rattle.tbc.proofs.Pairs.{running}
 use Rattle.wide.proofs.Indices.{at-row}
 use Rattle.wide.proofs.Steps.{second-made}
@@ -16,7 +18,8 @@ at-requires c κs = search needs
 e-running-requires : tie.Need-e-running-requires
 e-running-requires c κs =
     let s : tie.Start = c .before .before in
-    running (c .at .result) 2 (s .args .b) (c .at .ensures) (s .args .k) (s .args .power) (omega arith) (s .pre .0) (s .pre .2)
+    let second : c .at .result .1 ≤ 2 = omega (arith, ap (λ (p : Pair). p .1) (c .at .ensures)) in
+    (running (c .at .result) 2 (s .args .b) (c .at .ensures) (s .args .k) (s .args .power) (omega arith) (s .pre .0) (s .pre .2), second, s .pre .3)
 
 load-requires : tie.Need-load-requires
 load-requires c κs = search needs
@@ -54,8 +57,8 @@ returns c =
     let s : tie.After-e-running = left .before .before in
     let p : tie.After-at = s .before in
     let a = p .before .before .args in
-    let masked = at-row (p .at .result) 2 (a .b) (p .at .ensures) (blocks (a .k)) (s .e-running .result) (a .sum) (s .e-running .ensures) in
-    let made = second-made (E (blocks (a .k))) (a .b) (a .part .now) (left .load .result) (right .load2 .result) (left .load .ensures) (right .load2 .ensures) (a .sum) (s .e-running .result) (y .xor .result) (z .xor2 .result) (second .added .result) (first .added-at .result) masked (y .xor .ensures) (z .xor2 .ensures) (second .added .ensures) (first .added-at .ensures) in
+    let masked = at-row (p .at .result) 2 (a .b) (p .at .ensures) (base (a .k)) (s .e-running .result) (a .sum) (s .e-running .ensures) in
+    let made = second-made (E (base (a .k))) (a .b) (a .part .now) (left .load .result) (right .load2 .result) (left .load .ensures) (right .load2 .ensures) (a .sum) (s .e-running .result) (y .xor .result) (z .xor2 .result) (second .added .result) (first .added-at .result) masked (y .xor .ensures) (z .xor2 .ensures) (second .added .ensures) (first .added-at .ensures) in
     (made .0, put .put-two .ensures ∙ made .1)
 
 pub second-pair-spec : {M : Type 1} → statement M

@@ -1,7 +1,7 @@
 -- `wide::with_uv` meets its contract.
 use borrow.Author.Needs.{needs}
 use Rattle.paper.specs.Figure6.{E}
-use Rattle.tbc.specs.Meaning.{blocks}
+use Rattle.tbc.specs.Meaning.{base}
 use Rattle.wide.proofs.UvParts.{with-none, with-short, with-both}
 use Rattle.wide.proofs.with_uv.Statement.{statement}
 use Rattle.wide.proofs.with_uv.Tie as tie
@@ -41,14 +41,14 @@ added-requires-3 c κs = search needs
 returns : tie.Need-returns
 returns c =
     let a = c .before .before .args in
-    with-none (E (blocks (a .k))) (a .total) (a .uv .now) (c .if1 .taken)
+    with-none (E (base (a .k))) (a .total) (a .uv .now) (c .if1 .taken)
 
 returns-2 : tie.Need-returns-2
 returns-2 c =
     let pad : tie.After-pad = c .before in
     let short : tie.Then2 = pad .before in
     let a = start (short .before) .args in
-    with-short (E (blocks (a .k))) (a .total) (a .uv .now) (short .before .if1 .left) (short .if2 .taken) (pad .pad .result) (c .added .result) (pad .pad .ensures) (c .added .ensures)
+    with-short (E (base (a .k))) (a .total) (a .uv .now) (short .before .if1 .left) (short .if2 .taken) (pad .pad .result) (c .added .result) (pad .pad .ensures) (c .added .ensures)
 
 returns-3 : tie.Need-returns-3
 returns-3 c =
@@ -57,7 +57,7 @@ returns-3 c =
     let u : tie.After-load = more .before in
     let both : tie.Else2 = u .before in
     let a = start (both .before) .args in
-    with-both (E (blocks (a .k))) (a .total) (a .uv .now) (both .if2 .left) (u .load .result) (more .added2 .result) (v .pad2 .result) (c .added3 .result) (u .load .ensures) (more .added2 .ensures) (v .pad2 .ensures) (c .added3 .ensures)
+    with-both (E (base (a .k))) (a .total) (a .uv .now) (both .if2 .left) (u .load .result) (more .added2 .result) (v .pad2 .result) (c .added3 .result) (u .load .ensures) (more .added2 .ensures) (v .pad2 .ensures) (c .added3 .ensures)
 
 pub with-uv-spec : {M : Type 1} → statement M
 with-uv-spec =
