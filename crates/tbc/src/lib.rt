@@ -14,8 +14,10 @@ pub struct Key {
     i: [u8; 16],
     j: [u8; 16],
     l: [u8; 16],
+    // 2·I and 2·J.
     i2: [u8; 16],
     j2: [u8; 16],
+    // 0·L to 7·L, 0·J to 7·J, and 0·(8·J) to 7·(8·J), each one after the other.
     ls: [u8; 128],
     js: [u8; 128],
     rows: [u8; 128],
@@ -89,6 +91,7 @@ pub fn key_of(s: &[u8]) -> Key
 }
 
 impl Key {
+    // I, J and L.
     pub fn base(self) -> Base
         ensures { λ r. ⌜ base r ≡ blocks self ⌝ }
     {
