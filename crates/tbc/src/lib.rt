@@ -281,7 +281,8 @@ pub fn e(k: Base, m: &[u8; 128], p: Pair, x: [u8; 16]) -> [u8; 16]
     requires { ⌜ (Plain (rowOf p) (p .2)) × OfJ k (now m) ⌝ }
     ensures { λ r. ⌜ r ≡ E (base k) (rowOf p) (p .2) x ⌝ }
 {
-    let of_j = multiple(m, p.2);
+    let number = p.2;
+    let of_j = multiple(m, number);
     let y = block::xor(x, of_j);
     if p.0 {
         let keys = keys10(k);
