@@ -1,5 +1,4 @@
 -- 2·X as `double` makes it: X turned left by one bit, and then the last byte mended.
-use mathlib.Core.List.{List}
 use mathlib.Core.Path.{_≡_, refl, ap, sym, _∙_}
 use Prim.Native.Nat.{ℕ, zero, suc, _+_, _*_, _/_, _%_, _<_}
 use native.Mathlib.Decide.{decLt}

@@ -48,7 +48,7 @@ pub join-digits : (m : ℕ) (f : ℕ → Bytes) → UpTo m (λ i. Digits 8 32 (f
 join-digits m f h = join-bytes 32 m f h
 
 -- strings of w entries joined: how long that is
-pub join-long : (w m : ℕ) (f : ℕ → Bytes) → UpTo m (λ i. length (f i) ≡ w) → length (join m f) ≡ w * m
+join-long : (w m : ℕ) (f : ℕ → Bytes) → UpTo m (λ i. length (f i) ≡ w) → length (join m f) ≡ w * m
 unfolding join
 join-long w zero f h = omega arith
 join-long w (suc m) f h =

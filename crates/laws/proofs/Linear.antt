@@ -1,18 +1,18 @@
 -- Multiples are linear: the double of a sum, the multiples of a double, and a number's multiple from its low bits and the rest.
 use mathlib.Core.Path.{_≡_, refl, ap, ap₂, sym, _∙_}
-use Prim.Native.Nat.{ℕ, zero, suc, _+_, _*_, _/_, _%_, _≤_, _<_}
+use Prim.Native.Nat.{ℕ, zero, suc, _+_, _*_, _/_, _%_, _<_}
 use native.Mathlib.Decide.{decLt}
 use native.Mathlib.Nat.{add-zero, zero-lt-suc}
 use native.Mathlib.Omega.{arith}
 use lib.Arith.{bin-ind}
-use lib.Bits.{bitXor, xor-block, xor-comm, xor-mod, xor-shr}
+use lib.Bits.{bitXor, xor-block, xor-mod, xor-shr}
 use lib.ListN.{length, getD}
 use lib.Seq.{ext-getD}
 use Rattle.paper.specs.Strings.{Bytes, Block, _⊕_}
-use Rattle.paper.specs.Section7.{zeros, double, _·_}
+use Rattle.paper.specs.Section7.{double, _·_}
 use Rattle.laws.proofs.Xor.{xor-assoc, xor-left-comm}
-use Rattle.laws.proofs.Strings.{⊕-assoc, ⊕-comm, ⊕-zeros, ⊕-length, getD-⊕}
-use Rattle.laws.proofs.Digits.{⊕-block, below-getD, zero-digits}
+use Rattle.laws.proofs.Strings.{⊕-assoc, ⊕-zeros, getD-⊕}
+use Rattle.laws.proofs.Digits.{⊕-block, below-getD}
 use Rattle.laws.proofs.Multiples.{length-double, double-at, double-at-15, double-zeros, times-zero, times-one, times-even, times-odd}
 use Rattle.laws.proofs.KeyBlocks.{double-block, times-block}
 

@@ -1,13 +1,13 @@
 -- Eight blocks one after the other, 0·X to 7·X: what stands at each place, and how `multiples` lays them down.
-use mathlib.Core.List.{List, _++_, append-assoc, append-nil}
+use mathlib.Core.List.{_++_, append-nil}
 use mathlib.Core.Path.{_≡_, refl, ap, ap₂, sym, _∙_}
-use Prim.Native.Nat.{ℕ, _+_, _-_, _*_, _≤_, _<_}
+use Prim.Native.Nat.{ℕ, _+_, _-_, _*_, _<_}
 use native.Mathlib.Omega.{arith}
 use lib.ListN.{length, take, drop, replicate, length-append, length-drop, take-append-drop}
-use lib.Seq.{length-take-le, take-all, take-at, take-append-add}
+use lib.Seq.{length-take-le, take-all, take-at}
 use Rattle.paper.specs.Strings.{Bytes, Block, join}
-use Rattle.paper.specs.Section7.{zeros, _·_}
-use Rattle.laws.proofs.Joins.{join-at, join-long, join-more}
+use Rattle.paper.specs.Section7.{_·_}
+use Rattle.laws.proofs.Joins.{join-at, join-more}
 use Rattle.laws.proofs.KeyBlocks.{times-block}
 use Rattle.laws.proofs.Multiples.{times-zero}
 use Rattle.tbc.specs.Meaning.{multiples}
