@@ -6,3 +6,5 @@ pub mod Figure6
 pub mod Figure5
 pub mod Document01
 pub mod DayFile
+pub mod Pause
+pub mod Ledger
