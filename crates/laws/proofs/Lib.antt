@@ -46,3 +46,9 @@ pub mod DayWritten
 pub mod DayReading
 pub mod DayPlaces
 pub mod DayLists
+-- pauses and the ledger
+pub mod PauseSteps
+pub mod PauseParts
+pub mod Means
+pub mod Decimals
+pub mod LedgerSums
