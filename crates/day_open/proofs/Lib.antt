@@ -1,1 +1,1 @@
-mod Opens
+pub mod Opens

@@ -56,7 +56,7 @@ module _ (key f : Bytes) (low : Below 256 f) (records k : ℕ) (s : Stands f rec
   unfolding foundIn
   found-own = is ∙ ap (λ (o : Option Day). foundIn o k) (s .reads) ∙ ap (foundAt (s .day) k) (s .elem)
 
-  header-part : take (found .«header_end» - found .«header_start») (drop (found .«header_start») f) ≡ headerOf (s .day) (s .own)
+  pub header-part : take (found .«header_end» - found .«header_start») (drop (found .«header_start») f) ≡ headerOf (s .day) (s .own)
   unfolding foundAt
   header-part =
       let long : headerPlace (s .day .headers) (s .own .header) + length (headerOf (s .day) (s .own)) - headerPlace (s .day .headers) (s .own .header) ≡ length (headerOf (s .day) (s .own)) = omega arith in
@@ -64,7 +64,7 @@ module _ (key f : Bytes) (low : Below 256 f) (records k : ℕ) (s : Stands f rec
       ∙ ap (λ (n : ℕ). take n (drop (headerPlace (s .day .headers) (s .own .header)) f)) long
       ∙ header-stands f (s .day) low (s .reads) (s .own .header) (s .named)
 
-  sealed-part : take (found .end - found .start) (drop (found .start) f) ≡ s .own .sealed
+  pub sealed-part : take (found .end - found .start) (drop (found .start) f) ≡ s .own .sealed
   unfolding foundAt
   sealed-part =
       let long : placeOf (s .day) k + 7 + length (s .own .sealed) - (placeOf (s .day) k + 7) ≡ length (s .own .sealed) = omega arith in
@@ -72,7 +72,7 @@ module _ (key f : Bytes) (low : Below 256 f) (records k : ℕ) (s : Stands f rec
       ∙ ap (λ (n : ℕ). take n (drop (placeOf (s .day) k + 7) f)) long
       ∙ s .sealed-there
 
-  stretch-is : found .stretch ≡ s .own .stretch
+  pub stretch-is : found .stretch ≡ s .own .stretch
   unfolding foundAt
   stretch-is = ap (λ (x : Found). x .stretch) found-own
 

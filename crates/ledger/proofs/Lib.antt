@@ -1,0 +1,4 @@
+mod OpenedTexts
+mod Taken
+mod Sums
+mod Settled

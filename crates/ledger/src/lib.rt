@@ -1,0 +1,198 @@
+// The report of a day file, request E12: its pauses counted and summed, their longest and their mean, and the line.
+// One check of the file and then a walk over its records; each is opened into a small buffer, and nothing else is kept.
+use answer::Answer;
+use answer::StretchBytes;
+use day::Checked;
+use line::Report;
+use line::Totals;
+use pause::Mark;
+use pause::Read;
+ghost use mathlib.Core.Path.{_≡_};
+ghost use Prim.Native.Nat.{_+_, _<_, max};
+ghost use lib.ListN.{length, replicate};
+ghost use Rattle.paper.specs.Document01.{readHeader};
+ghost use Rattle.paper.specs.DayFile.{readDay};
+ghost use Rattle.paper.specs.Ledger.{openedPause, reportOf, reporting, reportingFigures};
+ghost use Rattle.answer.specs.Outcomes.{outcome};
+ghost use Rattle.day.specs.Finds.{recordsIn};
+ghost use Rattle.pause.specs.Answers.{markAs};
+ghost use Rattle.line.specs.Reports.{meaning};
+ghost use Rattle.ledger.specs.Pauses.{takenAs, pausesIn, pauseAt, totalsOf, addedTo, microsecondsIn};
+
+// The pause of a sealed string under a header with this mark, opened into a buffer of just its length.
+fn open_in(key: &[u8], header: &[u8], stretch: u64, sealed: &[u8], mark: u8, out: &mut [u8]) -> Read
+    requires { ⌜ (Mark.Is mark ≡ markAs (readHeader (now header))) × (now out ≡ replicate (length (now sealed)) 0) ⌝ }
+    ensures { λ r. ⌜ r ≡ takenAs (openedPause (now (key .entry)) (now (header .entry)) stretch (now (sealed .entry))) ⌝ }
+{
+    let answer = record::open(key, header, StretchBytes(stretch), sealed, &mut *out);
+    if answer.number != 0 {
+        return Read::Bad;
+    }
+    let length = answer.length;
+    pause::read_text(mark, &out[0..length])
+}
+
+// The pause of a sealed string under a header. A pause has at most 16 bytes and a stretch at most 64, so a longer string is refused unopened:
+// whether it opens makes no difference. Nor does it where the locale is refused.
+fn pause_of(key: &[u8], header: &[u8], stretch: u64, sealed: &[u8]) -> Read
+    ensures { λ r. ⌜ r ≡ takenAs (openedPause (now (key .entry)) (now (header .entry)) stretch (now (sealed .entry))) ⌝ }
+{
+    let n = sealed.len();
+    if 80 < n {
+        return Read::Bad;
+    }
+    let Mark::Is(mark) = pause::header_mark(header) else {
+        return Read::Bad;
+    };
+    let mut buffer = [0u8; 80];
+    open_in(key, header, stretch, sealed, mark, &mut buffer[0..n])
+}
+
+// The pause of record k.
+fn pause_at(key: &[u8], file: &[u8], records: usize, k: usize) -> Read
+    requires { ⌜ (records ≡ recordsIn (readDay (now file))) × (k < records) ⌝ }
+    ensures { λ r. ⌜ r ≡ takenAs (pauseAt (now (key .entry)) (readDay (now (file .entry))) k) ⌝ }
+{
+    let f = day::find(file, records, k);
+    let header_start = f.header_start;
+    let header_end = f.header_end;
+    let start = f.start;
+    let end = f.end;
+    pause_of(
+        key,
+        &file[header_start..header_end],
+        f.stretch,
+        &file[start..end],
+    )
+}
+
+fn larger(a: u64, b: u64) -> u64
+    ensures { λ r. ⌜ r ≡ max a b ⌝ }
+{
+    if a < b {
+        return b;
+    }
+    a
+}
+
+// The totals with one record more.
+fn added(t: Totals, pause: Read) -> Totals
+    requires { ⌜ (t .read < 65536) × (t .refused < 65536) × (t .sum + microsecondsIn pause < 18446744073709551616) ⌝ }
+    ensures { λ r. ⌜ r ≡ addedTo t pause ⌝ }
+{
+    match pause {
+        Read::Bad => Totals {
+            read: t.read,
+            refused: t.refused + 1,
+            sum: t.sum,
+            longest: t.longest,
+        },
+        Read::Pause(n) => {
+            let longest = larger(t.longest, n);
+            Totals {
+                read: t.read + 1,
+                refused: t.refused,
+                sum: t.sum + n,
+                longest,
+            }
+        }
+    }
+}
+
+// The totals of a file that reads and has so many records.
+fn totals(key: &[u8], file: &[u8], records: usize) -> Totals
+    requires { ⌜ records ≡ recordsIn (readDay (now file)) ⌝ }
+    ensures { λ r. ⌜ r ≡ totalsOf (pausesIn (now (key .entry)) (readDay (now (file .entry)))) ⌝ }
+{
+    let mut t = Totals {
+        read: 0,
+        refused: 0,
+        sum: 0,
+        longest: 0,
+    };
+    let mut k: usize = 0;
+    while k < records {
+        let pause = pause_at(key, file, records, k);
+        let more = added(t, pause);
+        t = more;
+        k += 1;
+    }
+    t
+}
+
+// The report of a file that reads and has so many records.
+fn report_of(key: &[u8], file: &[u8], records: usize) -> Report
+    requires { ⌜ records ≡ recordsIn (readDay (now file)) ⌝ }
+    ensures { λ r. ⌜ meaning r ≡ reportOf (pausesIn (now (key .entry)) (readDay (now (file .entry)))) ⌝ }
+{
+    let t = totals(key, file, records);
+    line::with_mean(t)
+}
+
+// The report's line. Nothing is written before the answer is settled.
+pub fn report(key: &[u8], file: &[u8], out: &mut [u8]) -> Answer
+    ensures { λ r. ⌜ outcome r (now (out .exit)) ≡ reporting (now (key .entry)) (now (file .entry)) (now (out .entry)) ⌝ }
+{
+    let Checked::Day {
+        headers: _,
+        records,
+        first: _,
+    } = day::check(file)
+    else {
+        return Answer {
+            number: 9,
+            length: 0,
+        };
+    };
+    if key.len() != 48 {
+        return Answer {
+            number: 1,
+            length: 0,
+        };
+    }
+    let r = report_of(key, file, records);
+    let length = line::line_length(r);
+    if out.len() < length {
+        return Answer {
+            number: 6,
+            length: 0,
+        };
+    }
+    line::put_line(r, out);
+    Answer { number: 0, length }
+}
+
+// The report's six numbers in place of the line.
+pub fn figures(key: &[u8], file: &[u8], out: &mut [u64]) -> Answer
+    ensures { λ r. ⌜ outcome r (now (out .exit)) ≡ reportingFigures (now (key .entry)) (now (file .entry)) (now (out .entry)) ⌝ }
+{
+    let Checked::Day {
+        headers: _,
+        records,
+        first: _,
+    } = day::check(file)
+    else {
+        return Answer {
+            number: 9,
+            length: 0,
+        };
+    };
+    if key.len() != 48 {
+        return Answer {
+            number: 1,
+            length: 0,
+        };
+    }
+    if out.len() < 6 {
+        return Answer {
+            number: 6,
+            length: 0,
+        };
+    }
+    let r = report_of(key, file, records);
+    line::put_figures(r, out);
+    Answer {
+        number: 0,
+        length: 6,
+    }
+}
