@@ -6,6 +6,8 @@ use header::Reading;
 ghost use mathlib.Core.Path.{_≡_};
 ghost use Rattle.paper.specs.Document01.{reading, sealing, opening, told, buildingLogHeader};
 ghost use Rattle.paper.specs.DayFile.{counting, openingRecord, listing, writing};
+ghost use Rattle.paper.specs.Pause.{pausing};
+ghost use Rattle.paper.specs.Ledger.{reporting, reportingFigures};
 
 // Sealing.
 #[no_mangle]
@@ -172,4 +174,33 @@ pub extern "C" fn aez_day_list(
     *headers = listed.headers as u64;
     *records = listed.records as u64;
     listed.number
+}
+
+// A pause: a text under a header, in exact microseconds.
+#[no_mangle]
+pub extern "C" fn aez_pause(header: &[u8], text: &[u8], microseconds: &mut u64) -> u32
+    ensures { λ r. ⌜ (r ≡ pausing (now (header .entry)) (now (text .entry)) .number) × (now (microseconds .exit) ≡ pausing (now (header .entry)) (now (text .entry)) .microseconds) ⌝ }
+{
+    let field = pause::read_field(header, text);
+    *microseconds = field.microseconds;
+    field.number
+}
+
+// The report of a day file, as a line.
+#[no_mangle]
+pub extern "C" fn aez_report(key: &[u8], file: &[u8], out: &mut [u8], size: &mut u64) -> u32
+    ensures { λ r. ⌜ (r ≡ reporting (now (key .entry)) (now (file .entry)) (now (out .entry)) .number) × (now (size .exit) ≡ reporting (now (key .entry)) (now (file .entry)) (now (out .entry)) .size) × (now (out .exit) ≡ reporting (now (key .entry)) (now (file .entry)) (now (out .entry)) .output) ⌝ }
+{
+    let answer = ledger::report(key, file, out);
+    *size = answer.length as u64;
+    answer.number
+}
+
+// The report of a day file, as six numbers: read, refused, sum, longest, and the mean's fraction.
+#[no_mangle]
+pub extern "C" fn aez_report_figures(key: &[u8], file: &[u8], figures: &mut [u64]) -> u32
+    ensures { λ r. ⌜ (r ≡ reportingFigures (now (key .entry)) (now (file .entry)) (now (figures .entry)) .number) × (now (figures .exit) ≡ reportingFigures (now (key .entry)) (now (file .entry)) (now (figures .entry)) .output) ⌝ }
+{
+    let answer = ledger::figures(key, file, figures);
+    answer.number
 }

@@ -8,3 +8,4 @@ pub mod BadEntries
 pub mod DayFiles
 pub mod Determined
 pub mod Composes
+pub mod Pauses
