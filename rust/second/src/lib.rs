@@ -7,3 +7,5 @@ pub mod day_file;
 pub mod document01;
 pub mod figure5;
 pub mod figure6;
+pub mod ledger;
+pub mod pause;
