@@ -22,7 +22,11 @@ pub fn figures(key: &[u8], file: &[u8]) -> Result<Figures, u32> {
     let answers: Vec<_> = records
         .map(|record| pause_of(key, file, &day, record))
         .collect();
-    let pauses: Vec<u128> = answers.iter().flatten().map(|&pause| pause.into()).collect();
+    let pauses: Vec<u128> = answers
+        .iter()
+        .flatten()
+        .map(|&pause| pause.into())
+        .collect();
 
     let read = pauses.len() as u128;
     let refused = answers.len() as u128 - read;
@@ -46,7 +50,7 @@ fn pause_of(key: &[u8], file: &[u8], day: &Day, record: &Record) -> Result<u64, 
 
 /// The fraction over the largest number that divides both; 0/1 where `under` is 0.
 fn lowest_terms(over: u128, under: u128) -> (u128, u128) {
-    let divides = |number: &u128| over % number == 0 && under % number == 0;
+    let divides = |&number: &u128| over.is_multiple_of(number) && under.is_multiple_of(number);
     match (1..=under).rev().find(divides) {
         Some(divisor) => (over / divisor, under / divisor),
         None => (0, 1),
@@ -77,7 +81,9 @@ pub fn report_figures(key: &[u8], file: &[u8], out: &mut [u64]) -> u32 {
         return 6;
     };
     for (place, figure) in places.iter_mut().zip(figures) {
-        *place = figure.try_into().expect("a figure of a day file is below 2^64");
+        *place = figure
+            .try_into()
+            .expect("a figure of a day file is below 2^64");
     }
     0
 }
