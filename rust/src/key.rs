@@ -2,7 +2,7 @@
 
 use core::fmt;
 
-use crate::{Refusal, KEY_LENGTH};
+use crate::{Refusal, Report, KEY_LENGTH};
 
 /// A key: 48 bytes, the blocks I, J and L, 16 each, in that order.
 ///
@@ -125,6 +125,26 @@ impl Key {
         out: &'a mut [u8],
     ) -> Result<&'a mut [u8], Refusal> {
         crate::open_record(&self.0, file, record, out)
+    }
+
+    /// Reports on a day file under this key, as [`report`](crate::report()) does.
+    ///
+    /// # Errors
+    ///
+    /// [`DayUnreadable`](Refusal::DayUnreadable).
+    pub fn report(&self, file: &[u8]) -> Result<Report, Refusal> {
+        crate::report(&self.0, file)
+    }
+
+    /// Writes the report as a line, as [`report_line`](crate::report_line) does.
+    ///
+    /// # Errors
+    ///
+    /// In this order: [`DayUnreadable`](Refusal::DayUnreadable),
+    /// [`OutputTooShort`](Refusal::OutputTooShort). After each of them all of `out` is
+    /// unchanged.
+    pub fn report_line<'a>(&self, file: &[u8], out: &'a mut [u8]) -> Result<&'a mut [u8], Refusal> {
+        crate::report_line(&self.0, file, out)
     }
 }
 

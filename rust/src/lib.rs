@@ -44,6 +44,10 @@
 //! by its number. A `DayWriter` keeps what it is given in collections of the caller's
 //! choice.
 //!
+//! A **pause** is what such a record says: [`read_pause`] reads an opened text under its
+//! header's locale, in exact microseconds, and [`report`] opens, reads and sums all
+//! records of a day file.
+//!
 //! The paper limits the use of one key to 2^48 bytes. No call counts them: that
 //! is the caller's to keep. The static library is for x86-64 Linux.
 
@@ -57,15 +61,19 @@ mod day;
 mod day_writer;
 mod header;
 mod key;
+mod pause;
 mod proved;
 mod refusal;
+mod report;
 
 pub use bad_entry::BadEntry;
 pub use day::{open_record, Day, Record, Records};
 pub use day_writer::{DayLists, DayWriter};
 pub use header::{read_header, HeaderStrings};
 pub use key::Key;
+pub use pause::read_pause;
 pub use refusal::Refusal;
+pub use report::{report, report_line, Mean, Report};
 
 /// The bytes of a key: the blocks I, J and L, 16 each, in that order.
 pub const KEY_LENGTH: usize = 48;
@@ -84,6 +92,11 @@ pub const LONGEST_LOG_HEADER: usize = 1 + 4 * (2 + 1_024);
 /// The bytes of the longest day file. An output of this length is never too short
 /// for [`DayWriter::write`].
 pub const LONGEST_DAY: usize = 65_536;
+
+/// The bytes of the longest line of a report. An output of this length is never too
+/// short for [`report_line`].
+// `line-most` in crates/laws/proofs/LedgerSums.antt.
+pub const LONGEST_REPORT: usize = 71;
 
 /// Seals `text`, and hands back the part of `out` that holds the sealed string:
 /// its first `text.len() + stretch` bytes. All later bytes are left unchanged.

@@ -7,7 +7,7 @@
 //! reads and writes `out` within these lengths, during the call alone. `out` is
 //! the one `&mut` among them, so no input shares a byte with it. A number that it
 //! sets, such as `place`, is passed as a pointer to it. The calls on a day file are in
-//! `day`.
+//! `day` and `ledger`.
 //!
 //! That the declarations below are the functions that the library exports is
 //! checked by no compiler. Names, order and widths stand in `crates/aez/src/lib.rt`.
@@ -19,6 +19,7 @@
 #![allow(unsafe_code)]
 
 pub mod day;
+pub mod ledger;
 
 use crate::{BadEntry, Refusal};
 
@@ -205,7 +206,8 @@ fn bad_entry(place: u64) -> BadEntry {
 /// `seal-at-number` (0, 1, 2, 3, 4 and 6), for opening as `open-at-number` (0 to 7),
 /// for the builder as `log-header-number` (0, 6 and 8). For the calls on a day file it
 /// is proved there too, as `day-write-number`, `day-records-number`, `day-open-number`
-/// and `day-list-number`: 9 and document 01's.
+/// and `day-list-number`: 9 and document 01's; for reading a pause (0, 3, 15 and 16) and
+/// reporting (0, 9, 1 and 6) in Pauses.antt.
 fn done(number: u32) -> Result<(), Refusal> {
     if number == 0 {
         return Ok(());

@@ -5,10 +5,12 @@ use core::fmt;
 
 use crate::BadEntry;
 
-/// A refusal: one of document 01's answers 1 to 8, or 9 of the day file.
+/// A refusal: one of document 01's answers 1 to 8, 9 of the day file, or 15 and 16 of
+/// the pause.
 ///
 /// A call gives the first that holds, in the order of their numbers; the log
 /// header builder tests 8 and then 6, and calls on a day file test 9 before the rest.
+/// 15 and 16 come after opening, and are for one record.
 ///
 /// Calls that are still to come bring refusals of their own, so a `match` has an
 /// arm for the rest. The numbers that stand here stay as they are.
@@ -48,7 +50,8 @@ pub enum Refusal {
     /// 5: opening, the sealed string is shorter than the stretch.
     ShorterThanStretch,
     /// 6: the output is shorter than text plus stretch, than the sealed string,
-    /// than the log header, or than the day file or the list of its places.
+    /// than the log header, or than the day file, the list of its places or the line of
+    /// its report.
     OutputTooShort,
     /// 7: opening, the check fails: no text seals to this string.
     CheckFails,
@@ -58,6 +61,11 @@ pub enum Refusal {
     /// asked for. Writing: a header, a stretch or a header's number is outside its
     /// layout, or the lists do not fit each other.
     DayUnreadable,
+    /// 15: reading a pause, the header has not four items, or the fourth is no known
+    /// locale: not `de`, `fr`, `it` or `en`.
+    LocaleUnknown,
+    /// 16: reading a pause, the text is none as the locale writes it.
+    NotAPause,
 }
 
 impl Refusal {
@@ -72,6 +80,8 @@ impl Refusal {
         Refusal::CheckFails,
         Refusal::ItemTooLong,
         Refusal::DayUnreadable,
+        Refusal::LocaleUnknown,
+        Refusal::NotAPause,
     ];
 
     /// Its number, document 01's or the request's.
@@ -86,6 +96,8 @@ impl Refusal {
             Refusal::CheckFails => 7,
             Refusal::ItemTooLong => 8,
             Refusal::DayUnreadable => 9,
+            Refusal::LocaleUnknown => 15,
+            Refusal::NotAPause => 16,
         }
     }
 
@@ -105,6 +117,8 @@ impl Refusal {
             Refusal::DayUnreadable => {
                 "the day file does not read or has no such record, or no such file can be written"
             }
+            Refusal::LocaleUnknown => "the locale is unknown, or the header has not four items",
+            Refusal::NotAPause => "the text is no pause as its locale writes one",
         }
     }
 }
