@@ -70,12 +70,12 @@ fn open(words: &[OsString]) -> Result<(), Failure> {
     write_result(&arguments, text)
 }
 
-fn file_named(name: &OsStr) -> Result<Vec<u8>, Failure> {
+pub fn file_named(name: &OsStr) -> Result<Vec<u8>, Failure> {
     Input::open(Some(name))?.bytes()
 }
 
 /// The refusal, and with 9 which of its meanings it is.
-fn told(refusal: Refusal, file: &[u8]) -> Failure {
+pub fn told(refusal: Refusal, file: &[u8]) -> Failure {
     if refusal != Refusal::DayUnreadable {
         return refusal.into();
     }

@@ -1,10 +1,11 @@
 //! The customer's story, told on the sample: what the header is for, why all of its
-//! items are written, what the stretch is for, and what a day file is. A step that
-//! comes out otherwise than told is a failure.
+//! items are written, what the stretch is for, what a day file is, and what its pauses
+//! come to. A step that comes out otherwise than told is a failure.
 
 use jarrovento::{log_header, Key, Refusal, LONGEST_LOG_HEADER};
 
 use crate::demo_day;
+use crate::demo_report;
 use crate::failure::Failure;
 use crate::hex;
 use crate::input;
@@ -32,6 +33,7 @@ pub fn story() -> Result<String, Failure> {
     let collector = with_a_collector(&key, &headers)?;
     let stretch_of_0 = without_a_stretch(&key, &headers)?;
     let day = demo_day::story(&key)?;
+    let report = demo_report::story(&key)?;
     Ok(format!(
         "\
 A pause was logged as \"{RECORD}\" on host n7. Its locale is de, where the comma is
@@ -48,7 +50,8 @@ change anywhere, in string or header, scrambles the whole text.
 What it can't promise: that a wrong string or a wrong header is noticed. Every
 string opens to something, and only the reader can tell that it makes no sense.
 
-{day}"
+{day}
+{report}"
     ))
 }
 

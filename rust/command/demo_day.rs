@@ -1,4 +1,4 @@
-//! The demo's last part: a day of records in one file.
+//! The demo's part on a day of records in one file.
 
 use jarrovento::{Day, Key, Record, Refusal};
 
@@ -6,11 +6,11 @@ use crate::day::shown;
 use crate::demo::expect;
 use crate::failure::Failure;
 
-const FILE: &[u8] = include_bytes!("../sample/pauses.day");
-const PAUSES: [&str; 3] = ["1,204 s", "870 ms", "1.204 s"];
+pub const FILE: &[u8] = include_bytes!("../sample/pauses.day");
+pub const PAUSES: [&str; 4] = ["1,204 s", "870 ms", "1.204 s", "1,204 s"];
 
 /// The last byte of the number of record 0's header.
-const HEADER_OF_0: usize = 0x39;
+const HEADER_OF_0: usize = 0x49;
 
 pub fn story(key: &Key) -> Result<String, Failure> {
     let mut places = vec![0; Day::places(FILE.len())];

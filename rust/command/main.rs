@@ -1,16 +1,17 @@
-//! The command `jarrovento`: log headers, sealing, opening and day files from the
-//! shell.
-//! `help.txt` says what it does.
+//! The command `jarrovento`: log headers, sealing, opening, day files and reports from
+//! the shell. `help.txt` says what it does.
 
 mod arguments;
 mod day;
 mod demo;
 mod demo_day;
+mod demo_report;
 mod failure;
 mod hex;
 mod input;
 mod lines;
 mod output;
+mod report;
 
 use std::env;
 use std::ffi::OsString;
@@ -51,6 +52,7 @@ fn run(words: &[OsString]) -> Result<(), Failure> {
         Some("seal") => seal_or_open(words, Key::seal),
         Some("open") => seal_or_open(words, Key::open),
         Some("day") => day::run(words),
+        Some("report") => report::run(words),
         Some("demo") => {
             Arguments::read(words, &[], &[])?;
             output::write(None, demo::story()?.as_bytes())

@@ -8,10 +8,11 @@ use support::{counting, day_file as file_of, header, hex, unhex};
 
 use crate::{done, fails, file, folder, jarrovento, SAMPLE_DAY, SAMPLE_KEY};
 
-const PAUSES: [(u8, &str, &str, &str); 3] = [
+const PAUSES: [(u8, &str, &str, &str); 4] = [
     (1, "n7", "de", "1,204 s"),
     (2, "n7", "de", "870 ms"),
     (1, "n8", "en", "1.204 s"),
+    (2, "n8", "en", "1,204 s"),
 ];
 
 /// What follows refusal 9.
@@ -21,7 +22,7 @@ fn refused_9(words: &[&str], more: &str) {
     fails(&jarrovento(words, b""), 9, &format!("{refusal}; {more}"));
 }
 
-/// The sample is what the second program makes of the three pauses.
+/// The sample is what the second program makes of the four texts.
 #[test]
 fn the_sample_is_the_second_program_s() {
     let mut headers = Vec::new();
@@ -35,7 +36,7 @@ fn the_sample_is_the_second_program_s() {
     }
     let sample = fs::read(SAMPLE_DAY).unwrap();
     assert_eq!(hex(&sample), hex(&file_of(&headers, &records)));
-    assert_eq!(day_file::count(&sample).length, 3);
+    assert_eq!(day_file::count(&sample).length, 4);
 }
 
 #[test]
@@ -46,6 +47,7 @@ fn records_are_listed() {
 record 0, stretch 4, length 11, header \"\\x01\" \"n7\" \"\" \"de\"
 record 1, stretch 4, length 10, header \"\\x02\" \"n7\" \"\" \"de\"
 record 2, stretch 4, length 11, header \"\\x01\" \"n8\" \"\" \"en\"
+record 3, stretch 4, length 11, header \"\\x02\" \"n8\" \"\" \"en\"
 ";
     assert_eq!(String::from_utf8(run.stdout).unwrap(), expected);
 }
@@ -115,8 +117,8 @@ fn refusals_of_opening() {
         [&["day", "open", day][..], &options].concat()
     };
     for key in [SAMPLE_KEY, &short_key] {
-        let last = "the file reads, and its last record is 2";
-        for record in ["3", "4", "4294967296", "18446744073709551615"] {
+        let last = "the file reads, and its last record is 3";
+        for record in ["4", "5", "4294967296", "18446744073709551615"] {
             refused_9(&words(SAMPLE_DAY, record, key), last);
         }
         for day in [&cut, &long, SAMPLE_KEY, "/dev/zero", "/dev/null"] {

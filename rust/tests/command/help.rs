@@ -15,7 +15,7 @@ fn help_names_every_refusal() {
     done(&help);
     let text = String::from_utf8(help.stdout).unwrap();
     for refusal in Refusal::ALL {
-        let line = format!("\n  {}  {}", refusal.number(), refusal.meaning());
+        let line = format!("\n  {:>2}  {}", refusal.number(), refusal.meaning());
         assert!(text.contains(&line), "{line}");
     }
     for command in [
@@ -27,6 +27,7 @@ fn help_names_every_refusal() {
         &["day", "list"],
         &["day", "open"],
         &["day", "write"],
+        &["report"],
         &["demo"],
     ] {
         let run = jarrovento(&[command, &["--help"]].concat(), b"");
@@ -47,7 +48,7 @@ fn shown_use(help: &str) -> Vec<(String, String)> {
                 command.push_str(line);
             }
             (None, Some((_, output))) => {
-                output.push_str(line.trim_start());
+                output.push_str(line.strip_prefix("  ").unwrap_or(line));
                 output.push('\n');
             }
             (None, None) => unreachable!("the first line is a command"),
@@ -60,7 +61,7 @@ fn shown_use(help: &str) -> Vec<(String, String)> {
 fn the_use_in_the_help_comes_out_as_shown() {
     let help = String::from_utf8(jarrovento(&["--help"], b"").stdout).unwrap();
     let shown = shown_use(&help);
-    assert_eq!(shown.len(), 9);
+    assert_eq!(shown.len(), 11);
     let folder = Path::new(env!("CARGO_BIN_EXE_jarrovento"))
         .parent()
         .unwrap();
@@ -120,6 +121,9 @@ fn the_demo_tells_what_the_second_program_gives() {
             .to_string(),
         format!("wrong by one\n  answer        {}\n", Refusal::DayUnreadable),
         format!("that of host n8\n  answer        {}\n", Refusal::CheckFails),
+        "  1,204 s in de 1204000 microseconds\n".to_string(),
+        format!("  1,204 s in en {}\n", Refusal::NotAPause),
+        "  report        3 1 3278000 1204000 3278000/3\n".to_string(),
     ] {
         assert!(story.contains(&line), "{line}");
     }

@@ -8,6 +8,7 @@ mod help;
 mod limits;
 mod outputs;
 mod refusals;
+mod report;
 mod round_trips;
 mod trouble;
 

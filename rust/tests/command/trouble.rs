@@ -5,14 +5,14 @@ use std::process::Stdio;
 
 use support::counting;
 
-use crate::{fails, file, folder, jarrovento, program, words, HEADER, SAMPLE_DAY};
+use crate::{fails, file, folder, jarrovento, program, words, HEADER, SAMPLE_DAY, SAMPLE_KEY};
 
 #[test]
 fn wrong_command_lines() {
     let key = ["--key", "key"];
     let header = ["--header", HEADER];
     let stretch = ["--stretch", "4"];
-    let cases: [(Vec<&str>, &str); 34] = [
+    let cases: [(Vec<&str>, &str); 38] = [
         (vec![], "no command"),
         (vec!["sale"], "no such command: sale"),
         (vec!["demo", "more"], "no such option here: more"),
@@ -119,6 +119,16 @@ fn wrong_command_lines() {
             "--record 18446744073709551616 is not the number of a record",
         ),
         (vec!["day", "write", "file"], "no such option here: file"),
+        (vec!["report", "--key", "key"], "the file is missing"),
+        (vec!["report", "file"], "--key is missing"),
+        (
+            vec!["report", "file", "--key", "key", "--hex-out"],
+            "no such option here: --hex-out",
+        ),
+        (
+            vec!["report", "file", "--long", "--long"],
+            "--long is given twice",
+        ),
         (vec!["day", "write", "--in"], "--in has no value after it"),
     ];
     for (words, message) in cases {
@@ -166,6 +176,8 @@ fn files_that_cannot_be_read_or_written() {
         vec!["day", "open", missing, "--record", "0", "--key", &key],
         vec!["day", "open", &key, "--record", "0", "--key", missing],
         vec!["day", "write", "--in", missing],
+        vec!["report", missing, "--key", &key],
+        vec!["report", &key, "--key", missing],
     ] {
         let run = jarrovento(&words, b"hello");
         fails(
@@ -197,6 +209,7 @@ fn standard_output_that_is_full() {
         &["day", "write"],
         &["day", "list", SAMPLE_DAY],
         &["day", "list", SAMPLE_DAY, "--hex-out"],
+        &["report", SAMPLE_DAY, "--key", SAMPLE_KEY],
     ] {
         let full = File::options().write(true).open("/dev/full").unwrap();
         let output = program()
