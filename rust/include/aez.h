@@ -9,14 +9,14 @@
  *     point anywhere else: nothing is read or written there. One to uint64_t is
  *     aligned for it, also then.
  *   - As many bytes, or numbers, as the length says can be read there, and written
- *     at `out` and at `places`.
- *   - No input shares a byte with `out` or `places`. Inputs may share bytes among
- *     themselves.
- *   - Nothing else writes the inputs, or touches `out` or `places`, before the call
- *     returns.
- *   - A pointer to a number that a call sets (`place`, `strings`, `size`, `headers`
- *     or `records` as a uint64_t *) points at a uint64_t, which shares no byte with
- *     anything else that is passed.
+ *     at `out`, at `places` and at `figures`.
+ *   - No input shares a byte with `out`, `places` or `figures`. Inputs may share bytes
+ *     among themselves.
+ *   - Nothing else writes the inputs, or touches `out`, `places` or `figures`, before
+ *     the call returns.
+ *   - A pointer to a number that a call sets (`place`, `strings`, `size`,
+ *     `microseconds`, and `headers` or `records` as a uint64_t *) points at a uint64_t,
+ *     which shares no byte with anything else that is passed.
  *
  * Everything else a call answers itself, by the numbers below, whatever the
  * bytes, the lengths and the stretch are. No call reads or writes outside its
@@ -34,6 +34,12 @@
  * string. The index, for each record the place of its first byte, counted from the
  * start of the file, in four bytes. Nothing follows.
  *
+ * Pause: 1 to 9 ASCII digits, a decimal mark and 1 to 3 digits or neither, one space,
+ * and "ms" or "s"; that is the whole text. The mark is a comma where the locale is "de",
+ * "fr" or "it", and a point where it is "en". The locale is the last of exactly four
+ * strings of the header. There are no thousands marks: no text is a pause under two
+ * locales and means different things there.
+ *
  * The AEZ paper limits the use of one key to 2^48 bytes. No call counts them.
  */
 #ifndef AEZ_H
@@ -49,8 +55,8 @@ extern "C" {
 /*
  * The answers, in the order in which they are tested, but for the log header
  * builder, which tests 8 and then 6, and for the calls on a day file, which test 9
- * before all others. After answers 1 to 6, 8 and 9 all of `out`, or `places`, is
- * unchanged. After every answer so is what stands behind that which is written.
+ * before all others. After answers 1 to 6, 8 and 9 all of `out`, `places` or `figures`
+ * is unchanged. After every answer so is what stands behind that which is written.
  */
 enum {
     AEZ_DONE = 0,
@@ -59,10 +65,12 @@ enum {
     AEZ_HEADER_UNREADABLE = 3,    /* the header does not read */
     AEZ_TOO_LONG = 4,             /* sealed string or day file: it is, or would be, above 65,536 bytes */
     AEZ_SHORTER_THAN_STRETCH = 5, /* opening: the sealed string is shorter than the stretch */
-    AEZ_OUTPUT_TOO_SHORT = 6,     /* `out` or `places` is too short */
+    AEZ_OUTPUT_TOO_SHORT = 6,     /* `out`, `places` or `figures` is too short */
     AEZ_CHECK_FAILS = 7,          /* opening: nothing seals to this string */
     AEZ_ITEM_TOO_LONG = 8,        /* log header: an item is above 1,024 bytes */
-    AEZ_DAY_UNREADABLE = 9        /* the day file does not read, lacks the record, or can't be written */
+    AEZ_DAY_UNREADABLE = 9,       /* the day file does not read, lacks the record, or can't be written */
+    AEZ_LOCALE_UNKNOWN = 15,      /* pause: the locale is unknown, or the header has not four items */
+    AEZ_NOT_A_PAUSE = 16          /* pause: the text is none as its locale writes one */
 };
 
 /*
@@ -194,6 +202,40 @@ uint32_t aez_day_open(const uint8_t *key, size_t key_len,
 uint32_t aez_day_list(const uint8_t *file, size_t file_len,
                       uint64_t *places, size_t places_len,
                       uint64_t *headers, uint64_t *records);
+
+/*
+ * Reads an opened text as a pause under its header. After answer 0 *microseconds is
+ * exactly what the text says, at most 999,999,999,999,000, and after every other 0:
+ * under "de" the text "1,204 s" is 1204000, and under "en" it is answer 16.
+ * Answers 0, 3, 15, 16.
+ */
+uint32_t aez_pause(const uint8_t *header, size_t header_len,
+                   const uint8_t *text, size_t text_len,
+                   uint64_t *microseconds);
+
+/*
+ * Opens and reads every record of a day file, and puts one line on them first in `out`:
+ * the records read, the records refused, the sum of the pauses read, the longest, and
+ * their mean as a fraction in lowest terms. All are decimals without leading zeros, in
+ * microseconds, with one space between them, then a line feed; "0 0 0 0 0/1" where
+ * there is no record. A record that does not open, or for which aez_pause answers 15 or
+ * 16, is refused and counts in no other figure. The sum never wraps. A line has at most
+ * 71 bytes. After answer 0 *size is its length, and after every other 0.
+ * Answers 0, 9, 1, 6.
+ */
+uint32_t aez_report(const uint8_t *key, size_t key_len,
+                    const uint8_t *file, size_t file_len,
+                    uint8_t *out, size_t out_len,
+                    uint64_t *size);
+
+/*
+ * The same report as numbers, first in `figures`: read, refused, sum, longest, and the
+ * mean's numerator and denominator. Answer 6: `figures` has fewer than six numbers.
+ * Answers 0, 9, 1, 6.
+ */
+uint32_t aez_report_figures(const uint8_t *key, size_t key_len,
+                            const uint8_t *file, size_t file_len,
+                            uint64_t *figures, size_t figures_len);
 
 #ifdef __cplusplus
 }

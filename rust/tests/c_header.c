@@ -59,6 +59,48 @@ static void day(const uint8_t *key)
     printf("day_write %u: %u bytes\n", (unsigned)answer, (unsigned)size);
 }
 
+/* A pause by itself, and a day of two, one of them refused. */
+static void pauses(const uint8_t *key)
+{
+    static const uint8_t de[] = {4, 0, 1, 1, 0, 2, 'n', '7', 0, 0, 0, 2, 'd', 'e'};
+    static const uint8_t en[] = {4, 0, 1, 1, 0, 2, 'n', '7', 0, 0, 0, 2, 'e', 'n'};
+    static const uint64_t header_lengths[] = {14, 14}, record_headers[] = {0, 1};
+    static const uint64_t record_stretches[] = {4, 4}, record_lengths[] = {11, 11};
+    const uint8_t *text = (const uint8_t *)"1,204 s";
+    uint8_t headers[28], sealed[22], file[90], line[71];
+    uint64_t figures[6], size = 99, microseconds = 99;
+    uint32_t answer;
+    size_t i;
+
+    answer = aez_pause(de, sizeof de, text, 7, &microseconds);
+    printf("pause %u: %u\n", (unsigned)answer, (unsigned)microseconds);
+    answer = aez_pause(en, sizeof en, text, 7, &microseconds);
+    printf("pause %u: %u\n", answer == AEZ_NOT_A_PAUSE ? (unsigned)answer : 99,
+           (unsigned)microseconds);
+    microseconds = 99;
+    answer = aez_pause(de, 0, text, 7, &microseconds);
+    printf("pause %u: %u\n", (unsigned)answer, (unsigned)microseconds);
+
+    for (i = 0; i < sizeof de; i++) {
+        headers[i] = de[i];
+        headers[sizeof de + i] = en[i];
+    }
+    aez_seal(key, 48, de, sizeof de, 4, text, 7, sealed, 11);
+    aez_seal(key, 48, en, sizeof en, 4, text, 7, sealed + 11, 11);
+    aez_day_write(header_lengths, 2, headers, sizeof headers, record_headers, 2, record_stretches, 2,
+                  record_lengths, 2, sealed, sizeof sealed, file, sizeof file, &size);
+    answer = aez_report(key, 48, file, (size_t)size, line, sizeof line, &microseconds);
+    printf("report %u: %.*s", (unsigned)answer, (int)microseconds, (const char *)line);
+    answer = aez_report(key, 48, file, (size_t)size, line, 29, &microseconds);
+    printf("report %u: %u\n", (unsigned)answer, (unsigned)microseconds);
+    answer = aez_report_figures(key, 48, file, (size_t)size, figures, 6);
+    printf("report_figures %u:", (unsigned)answer);
+    for (i = 0; i < 6; i++)
+        printf(" %u", (unsigned)figures[i]);
+    answer = aez_report_figures(key, 48, file, (size_t)size, figures, 5);
+    printf("\nreport_figures %u\n", (unsigned)answer);
+}
+
 int main(void)
 {
     static const uint8_t header[] = {4, 0, 1, 1, 0, 2, 'n', '7', 0, 0, 0, 2, 'd', 'e'};
@@ -110,5 +152,6 @@ int main(void)
     answer = aez_log_header(nonce, 1, host, 2, none, 0, locale, 2, built, 13);
     print("log_header", answer == AEZ_OUTPUT_TOO_SHORT ? answer : 99, built, 0);
     day(key);
+    pauses(key);
     return 0;
 }

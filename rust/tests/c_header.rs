@@ -46,9 +46,20 @@ open 7 000000000000000000000000000000000000000000
 seal 2 
 log_header 6 
 ";
-    let expected = format!("{expected}{}", day());
+    let expected = format!("{expected}{}{PAUSES}", day());
     assert_eq!(String::from_utf8_lossy(&run.stdout), expected);
 }
+
+/// The part on pauses.
+const PAUSES: &str = "\
+pause 0: 1204000
+pause 16: 0
+pause 3: 0
+report 0: 1 1 1204000 1204000 1204000/1
+report 6: 0
+report_figures 0: 1 1 1204000 1204000 1204000 1
+report_figures 6
+";
 
 /// The part on day files. "hello" under the header of one string 07 is sealed by the
 /// second program here.
