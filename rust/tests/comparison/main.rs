@@ -10,5 +10,6 @@ mod day;
 mod headers;
 mod lengths;
 mod log_headers;
+mod pauses;
 mod refusals;
 mod rooms;

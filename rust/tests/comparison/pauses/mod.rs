@@ -1,0 +1,9 @@
+//! Pauses and reports (request E12): the proved library against the second program.
+
+mod both;
+mod exports;
+
+mod locales;
+mod reports;
+mod sizes;
+mod texts;
