@@ -2,3 +2,4 @@
 mod Edges
 mod DayEdges
 mod PauseEdges
+mod DayEditEdges

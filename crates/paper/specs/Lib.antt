@@ -8,3 +8,4 @@ pub mod Document01
 pub mod DayFile
 pub mod Pause
 pub mod Ledger
+pub mod DayEdits
