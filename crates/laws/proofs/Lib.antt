@@ -52,3 +52,7 @@ pub mod PauseParts
 pub mod Means
 pub mod Decimals
 pub mod LedgerSums
+-- a day cleared and grown
+pub mod Picks
+pub mod DayCleared
+pub mod DayGrown
