@@ -66,7 +66,7 @@ fn as_number(x: u8) -> usize
 }
 
 // The number of the two bytes at a place.
-fn two(file: &[u8], at: usize) -> usize
+pub fn two(file: &[u8], at: usize) -> usize
     requires { ⌜ at + 2 ≤ length (now file) ⌝ }
     ensures { λ r. ⌜ (r ≡ value (take 2 (drop at (now (file .entry))))) × (r < 65536) ⌝ }
 {

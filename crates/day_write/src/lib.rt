@@ -120,7 +120,7 @@ fn settled(
 }
 
 // A number put at a place in two bytes.
-fn put_two(out: &mut [u8], at: usize, n: usize)
+pub fn put_two(out: &mut [u8], at: usize, n: usize)
     requires { ⌜ at + 2 ≤ length (now out) ⌝ }
     ensures { λ _. ⌜ now (out .exit) ≡ placed at (digits 256 2 n) (now (out .entry)) ⌝ }
 {
@@ -129,7 +129,7 @@ fn put_two(out: &mut [u8], at: usize, n: usize)
 }
 
 // A number put at a place in four bytes.
-fn put_four(out: &mut [u8], at: usize, n: usize)
+pub fn put_four(out: &mut [u8], at: usize, n: usize)
     requires { ⌜ at + 4 ≤ length (now out) ⌝ }
     ensures { λ _. ⌜ now (out .exit) ≡ placed at (digits 256 4 n) (now (out .entry)) ⌝ }
 {
@@ -157,7 +157,7 @@ fn put_headers(lengths: &[u64], headers: &[u8], out: &mut [u8], start: usize) ->
 }
 
 // A record put at a place.
-fn put_record(out: &mut [u8], at: usize, number: usize, stretch: usize, sealed: &[u8])
+pub fn put_record(out: &mut [u8], at: usize, number: usize, stretch: usize, sealed: &[u8])
     requires { ⌜ (stretch < 256) × (at + 7 + length (now sealed) ≤ length (now out)) ⌝ }
     ensures { λ _. ⌜ now (out .exit) ≡ placed at (writeRecord (recordWith number stretch (now (sealed .entry)))) (now (out .entry)) ⌝ }
 {
