@@ -1,0 +1,9 @@
+mod Table
+mod Beside
+mod Packs
+mod Turns
+mod Linked
+mod Few
+mod Steps
+mod Clears
+mod Answers
