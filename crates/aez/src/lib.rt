@@ -8,6 +8,7 @@ ghost use Rattle.paper.specs.Document01.{reading, sealing, opening, told, build
 ghost use Rattle.paper.specs.DayFile.{counting, openingRecord, listing, writing};
 ghost use Rattle.paper.specs.Pause.{pausing};
 ghost use Rattle.paper.specs.Ledger.{reporting, reportingFigures};
+ghost use Rattle.paper.specs.DayEdits.{clearing, appending};
 
 // Sealing.
 #[no_mangle]
@@ -202,5 +203,38 @@ pub extern "C" fn aez_report_figures(key: &[u8], file: &[u8], figures: &mut [u64
     ensures { λ r. ⌜ (r ≡ reportingFigures (now (key .entry)) (now (file .entry)) (now (figures .entry)) .number) × (now (figures .exit) ≡ reportingFigures (now (key .entry)) (now (file .entry)) (now (figures .entry)) .output) ⌝ }
 {
     let answer = ledger::figures(key, file, figures);
+    answer.number
+}
+
+// Clearing records out of a day file that stands first in a buffer.
+#[no_mangle]
+pub extern "C" fn aez_day_clear(
+    buffer: &mut [u8],
+    size: u64,
+    dropped: &[u64],
+    new_size: &mut u64,
+) -> u32
+    ensures { λ r. ⌜ (r ≡ clearing (now (buffer .entry)) size (now (dropped .entry)) .number) × (now («new_size» .exit) ≡ clearing (now (buffer .entry)) size (now (dropped .entry)) .size) × (now (buffer .exit) ≡ clearing (now (buffer .entry)) size (now (dropped .entry)) .output) ⌝ }
+{
+    let answer = day_clear::clear(buffer, size, dropped);
+    *new_size = answer.length as u64;
+    answer.number
+}
+
+// Appending a record to a day file that stands first in a buffer.
+#[no_mangle]
+pub extern "C" fn aez_day_append(
+    buffer: &mut [u8],
+    size: u64,
+    number: u64,
+    header: &[u8],
+    stretch: u64,
+    sealed: &[u8],
+    new_size: &mut u64,
+) -> u32
+    ensures { λ r. ⌜ (r ≡ appending (now (buffer .entry)) size number (now (header .entry)) stretch (now (sealed .entry)) .number) × (now («new_size» .exit) ≡ appending (now (buffer .entry)) size number (now (header .entry)) stretch (now (sealed .entry)) .size) × (now (buffer .exit) ≡ appending (now (buffer .entry)) size number (now (header .entry)) stretch (now (sealed .entry)) .output) ⌝ }
+{
+    let answer = day_append::append(buffer, size, number, header, stretch, sealed);
+    *new_size = answer.length as u64;
     answer.number
 }

@@ -53,7 +53,7 @@ abbrev pub written : Answer → Bytes → Bytes
 written r last = take (r .length) last
 
 -- sealing that answers 0 passed its tests
-sealed-passes : (key header : Bytes) (t : ℕ) (M out : Bytes) (r : AnswerAt) (last : Bytes) → Sealed key header t M out r last → r .number ≡ 0 → Fits key header t (length M) (length out)
+pub sealed-passes : (key header : Bytes) (t : ℕ) (M out : Bytes) (r : AnswerAt) (last : Bytes) → Sealed key header t M out r last → r .number ≡ 0 → Fits key header t (length M) (length out)
 sealed-passes key header t M out r last call z = go (settledSealing key header t (length M) (length out)) refl (eqb (settledSealing key header t (length M) (length out) .number) 0) refl
   where
     go : (n : Refusal) → n ≡ settledSealing key header t (length M) (length out) → (b : Bool) → eqb (n .number) 0 ≡ b → Fits key header t (length M) (length out)

@@ -60,12 +60,21 @@ use Rattle.cipher.proofs.decrypt.Reads as cipher-decrypt
 use Rattle.record.proofs.seal.Reads as record-seal
 use Rattle.record.proofs.«open».Reads as record-open
 use Rattle.record.proofs.open_part.Reads as record-open-part
+use Rattle.day.proofs.two.Reads as day-two
 use Rattle.day.proofs.entry_at.Reads as day-entry-at
 use Rattle.day.proofs.check.Reads as day-check
 use Rattle.day.proofs.find.Reads as day-find
 use Rattle.day.proofs.list.Reads as day-list
 use Rattle.day_open.proofs.«open».Reads as day-open
+use Rattle.day_write.proofs.put_two.Reads as day-put-two
+use Rattle.day_write.proofs.put_four.Reads as day-put-four
+use Rattle.day_write.proofs.put_record.Reads as day-put-record
 use Rattle.day_write.proofs.write.Reads as day-write
+use Rattle.day_place.proofs.move_left.Reads as day-move-left
+use Rattle.day_place.proofs.move_right.Reads as day-move-right
+use Rattle.day_place.proofs.put_index.Reads as day-put-index
+use Rattle.day_append.proofs.append.Reads as day-append
+use Rattle.day_clear.proofs.clear.Reads as day-clear
 use Rattle.aez.proofs.aez_seal.Reads as exported-seal
 use Rattle.aez.proofs.aez_open.Reads as exported-open
 use Rattle.aez.proofs.aez_seal_at.Reads as exported-seal-at
@@ -76,6 +85,8 @@ use Rattle.aez.proofs.aez_day_write.Reads as exported-day-write
 use Rattle.aez.proofs.aez_day_records.Reads as exported-day-records
 use Rattle.aez.proofs.aez_day_open.Reads as exported-day-open
 use Rattle.aez.proofs.aez_day_list.Reads as exported-day-list
+use Rattle.aez.proofs.aez_day_clear.Reads as exported-day-clear
+use Rattle.aez.proofs.aez_day_append.Reads as exported-day-append
 
 -- ---- The general lemmas
 
@@ -259,7 +270,10 @@ record-open-determined κs a z w e f p q = one-outcome-at z w (now (e .1 .1 .1 .
 pub record-open-part-determined : (κs : _) (a : _) (z w : _) (e f : _) → record-open-part.Learnt κs a z e → record-open-part.Learnt κs a w f → (ptr z ≡ ptr w) × (now z ≡ now w)
 record-open-part-determined κs a z w e f p q = (one (p .0) (q .0), one (p .1) (q .1))
 
--- ---- The day file: `day`, `day_open`, `day_write`
+-- ---- The day file: `day`, `day_open`, `day_write`, `day_place`, `day_append`, `day_clear`
+
+pub day-two-determined : (κs : _) (a : _) (z w : _) (e f : _) → day-two.Learnt κs a z e → day-two.Learnt κs a w f → z ≡ w
+day-two-determined κs a z w e f p q = one (p .0) (q .0)
 
 pub day-entry-at-determined : (κs : _) (a : _) (z w : _) (e f : _) → day-entry-at.Learnt κs a z e → day-entry-at.Learnt κs a w f → z ≡ w
 day-entry-at-determined κs a z w e f p q = one (p .0) (q .0)
@@ -278,6 +292,30 @@ day-open-determined κs a z w e f p q = one-outcome z w (now (e .1 .1 .1 .0)) (n
 
 pub day-write-determined : (κs : _) (a : _) (z w : _) (e f : _) → day-write.Learnt κs a z e → day-write.Learnt κs a w f → (z ≡ w) × (now (e .1 .1 .1 .1 .1 .1 .0) ≡ now (f .1 .1 .1 .1 .1 .1 .0))
 day-write-determined κs a z w e f p q = one-outcome z w (now (e .1 .1 .1 .1 .1 .1 .0)) (now (f .1 .1 .1 .1 .1 .1 .0)) _ p q
+
+pub day-put-two-determined : (κs : _) (a : _) (z w : _) (e f : _) → day-put-two.Learnt κs a z e → day-put-two.Learnt κs a w f → now (e .0) ≡ now (f .0)
+day-put-two-determined κs a z w e f p q = one p q
+
+pub day-put-four-determined : (κs : _) (a : _) (z w : _) (e f : _) → day-put-four.Learnt κs a z e → day-put-four.Learnt κs a w f → now (e .0) ≡ now (f .0)
+day-put-four-determined κs a z w e f p q = one p q
+
+pub day-put-record-determined : (κs : _) (a : _) (z w : _) (e f : _) → day-put-record.Learnt κs a z e → day-put-record.Learnt κs a w f → now (e .0) ≡ now (f .0)
+day-put-record-determined κs a z w e f p q = one p q
+
+pub day-move-left-determined : (κs : _) (a : _) (z w : _) (e f : _) → day-move-left.Learnt κs a z e → day-move-left.Learnt κs a w f → now (e .0) ≡ now (f .0)
+day-move-left-determined κs a z w e f p q = one p q
+
+pub day-move-right-determined : (κs : _) (a : _) (z w : _) (e f : _) → day-move-right.Learnt κs a z e → day-move-right.Learnt κs a w f → now (e .0) ≡ now (f .0)
+day-move-right-determined κs a z w e f p q = one p q
+
+pub day-put-index-determined : (κs : _) (a : _) (z w : _) (e f : _) → day-put-index.Learnt κs a z e → day-put-index.Learnt κs a w f → now (e .0) ≡ now (f .0)
+day-put-index-determined κs a z w e f p q = one p q
+
+pub day-append-determined : (κs : _) (a : _) (z w : _) (e f : _) → day-append.Learnt κs a z e → day-append.Learnt κs a w f → (z ≡ w) × (now (e .0) ≡ now (f .0))
+day-append-determined κs a z w e f p q = one-outcome z w (now (e .0)) (now (f .0)) _ p q
+
+pub day-clear-determined : (κs : _) (a : _) (z w : _) (e f : _) → day-clear.Learnt κs a z e → day-clear.Learnt κs a w f → (z ≡ w) × (now (e .0) ≡ now (f .0))
+day-clear-determined κs a z w e f p q = one-outcome z w (now (e .0)) (now (f .0)) _ p q
 
 -- ---- What other programs link: `aez`
 
@@ -318,3 +356,11 @@ exported-day-open-determined κs a z w e f p q = (one (p .0) (q .0), one (p .1) 
 pub exported-day-list-determined : (κs : _) (a : _) (z w : _) (e f : _) → exported-day-list.Learnt κs a z e → exported-day-list.Learnt κs a w f
     → (z ≡ w) × (now (e .1 .1 .0) ≡ now (f .1 .1 .0)) × (now (e .1 .1 .1 .0) ≡ now (f .1 .1 .1 .0)) × (now (e .1 .0) ≡ now (f .1 .0))
 exported-day-list-determined κs a z w e f p q = (one (p .0) (q .0), one (p .1) (q .1), one (p .2) (q .2), one (p .3) (q .3))
+
+pub exported-day-clear-determined : (κs : _) (a : _) (z w : _) (e f : _) → exported-day-clear.Learnt κs a z e → exported-day-clear.Learnt κs a w f
+    → (z ≡ w) × (now (e .1 .1 .1 .0) ≡ now (f .1 .1 .1 .0)) × (now (e .0) ≡ now (f .0))
+exported-day-clear-determined κs a z w e f p q = (one (p .0) (q .0), one (p .1) (q .1), one (p .2) (q .2))
+
+pub exported-day-append-determined : (κs : _) (a : _) (z w : _) (e f : _) → exported-day-append.Learnt κs a z e → exported-day-append.Learnt κs a w f
+    → (z ≡ w) × (now (e .1 .1 .1 .1 .1 .1 .0) ≡ now (f .1 .1 .1 .1 .1 .1 .0)) × (now (e .0) ≡ now (f .0))
+exported-day-append-determined κs a z w e f p q = (one (p .0) (q .0), one (p .1) (q .1), one (p .2) (q .2))

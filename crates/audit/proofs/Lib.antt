@@ -6,6 +6,7 @@ pub mod AcceptedStrings
 pub mod LogHeaders
 pub mod BadEntries
 pub mod DayFiles
+pub mod EditedDays
 pub mod Determined
 pub mod Composes
 pub mod Pauses

@@ -1,17 +1,18 @@
 -- THE NUMBERS. What each exported function returns is one of document 01's numbers for that call, and no other number.
-use mathlib.Core.Bool.{Bool, true, false, _||_}
+use mathlib.Core.Bool.{Bool, true, false, _||_, not}
 use mathlib.Core.List.{List, [], _∷_}
 use mathlib.Core.Option.{Option, none, some}
 use mathlib.Core.Path.{_≡_, refl, ap, _∙_}
 use Prim.Native.Nat.{ℕ}
 use denote.Ref.{now}
 use lib.Dec.{eqb, ltb}
-use lib.ListN.{length, getElem?}
+use lib.ListN.{length, take, getElem?}
 use Rattle.paper.specs.Strings.{Bytes, if_then_else_}
 use Rattle.paper.specs.Figure6.{keyOf, E}
 use Rattle.paper.specs.Figure5.{decrypt}
 use Rattle.paper.specs.Document01.{Outcome, OutcomeAt, beside, refused, done, Read, asStrings, badEntry, reading, told, longestString, logHeader, sealing, opened, opening, buildingLogHeader}
 use Rattle.paper.specs.DayFile.{Record, Day, headerOf, writeDay, longestFile, readDay, counted, counting, openRecord, openIn, openingRecord, dayPlaces, listed, listing, headersOf, dayFrom, writeAs, writing}
+use Rattle.paper.specs.DayEdits.{cleared, risingFrom, shrunk, clearIn, clearing, grown, appendFits, appendIn, appending}
 use Rattle.record.proofs.Settles.{sealing-in, opening-in}
 use Rattle.aez.proofs.aez_seal.Reads as aez-seal
 use Rattle.aez.proofs.aez_open.Reads as aez-open
@@ -23,6 +24,8 @@ use Rattle.aez.proofs.aez_day_write.Reads as aez-day-write
 use Rattle.aez.proofs.aez_day_records.Reads as aez-day-records
 use Rattle.aez.proofs.aez_day_open.Reads as aez-day-open
 use Rattle.aez.proofs.aez_day_list.Reads as aez-day-list
+use Rattle.aez.proofs.aez_day_clear.Reads as aez-day-clear
+use Rattle.aez.proofs.aez_day_append.Reads as aez-day-append
 
 -- whether n is one of the numbers ns
 abbrev pub among : List ℕ → ℕ → Bool
@@ -185,3 +188,56 @@ listing-gives file places = go (readDay file)
 
 pub day-list-number : (κs : _) (a : _) (n : _) (e : _) → aez-day-list.Learnt κs a n e → among of-day-listing n ≡ true
 day-list-number κs a n e p = ap (among of-day-listing) (p .0) ∙ listing-gives (now (a .0)) (now (a .1 .0))
+
+-- ---- Clearing and appending (request E13)
+
+abbrev pub of-day-clearing : List ℕ
+of-day-clearing = 0 ∷ 9 ∷ 17 ∷ []
+
+clearing-gives : (B : Bytes) (size : ℕ) (dropped : List ℕ) → Gives of-day-clearing (clearing B size dropped)
+unfolding clearing clearIn
+clearing-gives B size dropped = by-length (ltb (length B) size)
+  where
+    by-list : (day : Day) (b : Bool) → Gives of-day-clearing (if b then shrunk (writeDay (cleared dropped day)) size B else refused 17 B)
+    by-list day true = refl
+    by-list day false = refl
+
+    by-day : (o : Option Day) → Gives of-day-clearing (clearIn o size dropped B)
+    by-day none = refl
+    by-day (some day) = by-list day (risingFrom 0 (length (day .records)) dropped)
+
+    by-length : (b : Bool) → Gives of-day-clearing (if b then refused 9 B else clearIn (readDay (take size B)) size dropped B)
+    by-length true = refl
+    by-length false = by-day (readDay (take size B))
+
+pub day-clear-number : (κs : _) (a : _) (n : _) (e : _) → aez-day-clear.Learnt κs a n e → among of-day-clearing n ≡ true
+day-clear-number κs a n e p = ap (among of-day-clearing) (p .0) ∙ clearing-gives (now (a .0)) (a .1 .0) (now (a .1 .1 .0))
+
+abbrev pub of-day-appending : List ℕ
+of-day-appending = 0 ∷ 6 ∷ 9 ∷ []
+
+appending-gives : (B : Bytes) (size number : ℕ) (header : Bytes) (stretch : ℕ) (sealed : Bytes) → Gives of-day-appending (appending B size number header stretch sealed)
+unfolding appending appendIn
+appending-gives B size number header stretch sealed = by-length (ltb (length B) size)
+  where
+    file : Day → Bytes
+    file day = writeDay (grown number header stretch sealed day)
+
+    by-tests : (day : Day) (a b c : Bool) → Gives of-day-appending (if not a then refused 9 B else if b then refused 6 B else if c then refused 6 B else done (length (file day)) (file day) B)
+    by-tests day true false false = refl
+    by-tests day true false true = refl
+    by-tests day true true c = refl
+    by-tests day false b c = refl
+
+    by-day : (o : Option Day) → Gives of-day-appending (appendIn o number header stretch sealed B)
+    by-day none = refl
+    by-day (some day) = by-tests day (appendFits number header stretch (length (day .headers))) (ltb longestFile (length (file day))) (ltb (length B) (length (file day)))
+
+    by-length : (b : Bool) → Gives of-day-appending (if b then refused 9 B else appendIn (readDay (take size B)) number header stretch sealed B)
+    by-length true = refl
+    by-length false = by-day (readDay (take size B))
+
+pub day-append-number : (κs : _) (a : _) (n : _) (e : _) → aez-day-append.Learnt κs a n e → among of-day-appending n ≡ true
+day-append-number κs a n e p =
+    ap (among of-day-appending) (p .0)
+    ∙ appending-gives (now (a .0)) (a .1 .0) (a .1 .1 .0) (now (a .1 .1 .1 .0)) (a .1 .1 .1 .1 .0) (now (a .1 .1 .1 .1 .1 .0))

@@ -201,3 +201,36 @@ module _ (B : Bytes) (low : Below 256 B) (size : ℕ) (day : Day) (reads : readD
       let o : OutcomeAt = opening key h stretch sealed buffer in
       open-after-seal key h (passed .strings) stretch fixed M room text q left seal done-0 buffer (record { number = s .number; length = s .length; place = o .place }) end enough
       ((λ i. record { number = by-day i .number; place = o .place; size = by-day i .size; output = by-day i .output }) ∙ ap (λ (C : Bytes). opening key h stretch C buffer) (sym made))
+
+-- ---- When an append fits
+
+-- where the file reads and the layout allows the record, the append answers 0 exactly where the grown file fits the buffer and the limit. Its
+-- length is `DayGrown.grown-long`: eleven bytes, the sealed bytes and a new header more
+module _ (B : Bytes) (size : ℕ) (day : Day) (inside : size ≤ length B) (reads : readDay (take size B) ≡ some day) (number : ℕ) (header : Bytes) (stretch : ℕ)
+    (sealed : Bytes) (fits : appendFits number header stretch (length (day .headers)) ≡ true) (r : Answer) (last : Bytes) (call : Appended B size number header stretch sealed r last) where
+  abbrev grown-file : Bytes
+  grown-file = writeDay (grown number header stretch sealed day)
+
+  settled : outcome r last ≡ (if ltb longestFile (length grown-file) then refused 6 B else if ltb (length B) (length grown-file) then refused 6 B else done (length grown-file) grown-file B)
+  unfolding appending appendIn
+  settled =
+      call
+      ∙ ap (λ (b : Bool). if b then refused 9 B else appendIn (readDay (take size B)) number header stretch sealed B) (le-ltb (length B) size inside)
+      ∙ ap (λ (o : Option Day). appendIn o number header stretch sealed B) reads
+      ∙ ap (λ (b : Bool). if not b then refused 9 B else if ltb longestFile (length grown-file) then refused 6 B else if ltb (length B) (length grown-file) then refused 6 B else done (length grown-file) grown-file B) fits
+
+  pub fits-in-room : length grown-file ≤ longestFile → length grown-file ≤ length B → r .number ≡ 0
+  fits-in-room p q =
+      ap (λ (o : Outcome). o .number)
+      (settled
+      ∙ ap (λ (b : Bool). if b then refused 6 B else if ltb (length B) (length grown-file) then refused 6 B else done (length grown-file) grown-file B) (le-ltb longestFile (length grown-file) p)
+      ∙ ap (λ (b : Bool). if b then refused 6 B else done (length grown-file) grown-file B) (le-ltb (length B) (length grown-file) q))
+
+  pub room-where-fits : r .number ≡ 0 → (length grown-file ≤ longestFile) × (length grown-file ≤ length B)
+  room-where-fits z = go (ltb longestFile (length grown-file)) refl (ltb (length B) (length grown-file)) refl settled
+    where
+      go : (a : Bool) → ltb longestFile (length grown-file) ≡ a → (b : Bool) → ltb (length B) (length grown-file) ≡ b
+          → outcome r last ≡ (if a then refused 6 B else if b then refused 6 B else done (length grown-file) grown-file B) → (length grown-file ≤ longestFile) × (length grown-file ≤ length B)
+      go true p b q e = absurd (omega (arith, ap (λ (o : Outcome). o .number) e, z))
+      go false p true q e = absurd (omega (arith, ap (λ (o : Outcome). o .number) e, z))
+      go false p false q e = (ltb-false longestFile (length grown-file) p, ltb-false (length B) (length grown-file) q)
