@@ -42,7 +42,8 @@
 //! A **day file** holds the records of a day with their headers, and an index of them.
 //! [`Day`] reads one, [`DayWriter`] writes one, and [`open_record`] opens a record of it
 //! by its number. A `DayWriter` keeps what it is given in collections of the caller's
-//! choice.
+//! choice. A [`DayBuffer`] changes a file where it stands: it clears out records, and
+//! appends one.
 //!
 //! A **pause** is what such a record says: [`read_pause`] reads an opened text under its
 //! header's locale, in exact microseconds, and [`report`] opens, reads and sums all
@@ -58,6 +59,7 @@
 
 mod bad_entry;
 mod day;
+mod day_buffer;
 mod day_writer;
 mod header;
 mod key;
@@ -68,6 +70,7 @@ mod report;
 
 pub use bad_entry::BadEntry;
 pub use day::{open_record, Day, Record, Records};
+pub use day_buffer::DayBuffer;
 pub use day_writer::{DayLists, DayWriter};
 pub use header::{read_header, HeaderStrings};
 pub use key::Key;

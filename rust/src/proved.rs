@@ -206,8 +206,9 @@ fn bad_entry(place: u64) -> BadEntry {
 /// `seal-at-number` (0, 1, 2, 3, 4 and 6), for opening as `open-at-number` (0 to 7),
 /// for the builder as `log-header-number` (0, 6 and 8). For the calls on a day file it
 /// is proved there too, as `day-write-number`, `day-records-number`, `day-open-number`
-/// and `day-list-number`: 9 and document 01's; for reading a pause (0, 3, 15 and 16) and
-/// reporting (0, 9, 1 and 6) in Pauses.antt.
+/// and `day-list-number`: 9 and document 01's; `day-clear-number`: 0, 9 and 17;
+/// `day-append-number`: 0, 6 and 9; for reading a pause (0, 3, 15 and 16) and reporting
+/// (0, 9, 1 and 6) in Pauses.antt.
 fn done(number: u32) -> Result<(), Refusal> {
     if number == 0 {
         return Ok(());

@@ -5,8 +5,8 @@ use core::fmt;
 
 use crate::BadEntry;
 
-/// A refusal: one of document 01's answers 1 to 8, 9 of the day file, or 15 and 16 of
-/// the pause.
+/// A refusal: one of document 01's answers 1 to 8, 9 and 17 of the day file, or 15 and
+/// 16 of the pause.
 ///
 /// A call gives the first that holds, in the order of their numbers; the log
 /// header builder tests 8 and then 6, and calls on a day file test 9 before the rest.
@@ -51,21 +51,25 @@ pub enum Refusal {
     ShorterThanStretch,
     /// 6: the output is shorter than text plus stretch, than the sealed string,
     /// than the log header, or than the day file, the list of its places or the line of
-    /// its report.
+    /// its report. Appending: with the record the day file would be above its buffer or
+    /// above 65,536 bytes.
     OutputTooShort,
     /// 7: opening, the check fails: no text seals to this string.
     CheckFails,
     /// 8: the log header builder, an item is above 1,024 bytes.
     ItemTooLong,
     /// 9: the day file does not read, names a header that it lacks, or lacks the record
-    /// asked for. Writing: a header, a stretch or a header's number is outside its
-    /// layout, or the lists do not fit each other.
+    /// asked for. Writing and appending: a header, a stretch or a header's number is
+    /// outside its layout, or the lists do not fit each other.
     DayUnreadable,
     /// 15: reading a pause, the header has not four items, or the fourth is no known
     /// locale: not `de`, `fr`, `it` or `en`.
     LocaleUnknown,
     /// 16: reading a pause, the text is none as the locale writes it.
     NotAPause,
+    /// 17: clearing out records, the list of their numbers is not strictly rising, or
+    /// names a record that the day file lacks.
+    WrongList,
 }
 
 impl Refusal {
@@ -82,6 +86,7 @@ impl Refusal {
         Refusal::DayUnreadable,
         Refusal::LocaleUnknown,
         Refusal::NotAPause,
+        Refusal::WrongList,
     ];
 
     /// Its number, document 01's or the request's.
@@ -98,6 +103,7 @@ impl Refusal {
             Refusal::DayUnreadable => 9,
             Refusal::LocaleUnknown => 15,
             Refusal::NotAPause => 16,
+            Refusal::WrongList => 17,
         }
     }
 
@@ -109,7 +115,7 @@ impl Refusal {
             Refusal::HeaderUnreadable(_) => "the header does not read",
             Refusal::TooLong => "the sealed string or day file is, or would be, above 65,536 bytes",
             Refusal::ShorterThanStretch => "the sealed string is shorter than the stretch",
-            Refusal::OutputTooShort => "the output is too short",
+            Refusal::OutputTooShort => "the output is too short, or the day file has no room left",
             Refusal::CheckFails => {
                 "the check fails: nothing seals to this string under this key, header and stretch"
             }
@@ -119,6 +125,9 @@ impl Refusal {
             }
             Refusal::LocaleUnknown => "the locale is unknown, or the header has not four items",
             Refusal::NotAPause => "the text is no pause as its locale writes one",
+            Refusal::WrongList => {
+                "the list of records is not strictly rising, or names one that is not there"
+            }
         }
     }
 }

@@ -184,9 +184,9 @@ fn the_limits_are_the_library_s() {
 }
 
 #[test]
-fn refusals_are_numbered_from_1_to_9_and_15_and_16() {
+fn refusals_are_numbered_from_1_to_9_and_15_to_17() {
     let numbers = Refusal::ALL.iter().map(|refusal| refusal.number());
-    assert!(numbers.eq((1..=9).chain([15, 16])));
+    assert!(numbers.eq((1..=9).chain(15..=17)));
 }
 
 #[test]

@@ -1,10 +1,12 @@
 //! The exported functions for a day file. What they return and hand back is defined
 //! in `crates/paper/specs/DayFile.antt`: `writing`, `counting`, `listing` and
-//! `openingRecord`. The numbers that they set, `size`, `headers` and `records`, are 0
-//! after every refusal.
+//! `openingRecord`; and in `DayEdits.antt` beside it: `clearing` and `appending`. The
+//! numbers that they set, `size`, `headers`, `records` and `new_size`, are 0 after every
+//! refusal.
 //!
 //! Slices of numbers are passed as those of bytes are; their lengths count numbers.
-//! `places` is to `list` what `out` is to the others.
+//! `places` is to `list` what `out` is to the others, and so is `buffer`, which holds a
+//! file at entry, to `clear` and `append`.
 
 use super::done;
 use crate::{DayLists, Refusal};
@@ -48,6 +50,28 @@ unsafe extern "C" {
         places_len: usize,
         headers: *mut u64,
         records: *mut u64,
+    ) -> u32;
+
+    fn aez_day_clear(
+        buffer: *mut u8,
+        buffer_len: usize,
+        size: u64,
+        dropped: *const u64,
+        dropped_len: usize,
+        new_size: *mut u64,
+    ) -> u32;
+
+    fn aez_day_append(
+        buffer: *mut u8,
+        buffer_len: usize,
+        size: u64,
+        number: u64,
+        header: *const u8,
+        header_len: usize,
+        stretch: u64,
+        sealed: *const u8,
+        sealed_len: usize,
+        new_size: *mut u64,
     ) -> u32;
 }
 
@@ -131,4 +155,57 @@ pub fn list(file: &[u8], places: &mut [u64]) -> Result<(usize, usize), Refusal> 
     };
     done(number)?;
     Ok((headers as usize, records as usize))
+}
+
+/// Clears records out of the day file that is the first `size` bytes of `buffer`, and
+/// returns its new length.
+pub fn clear(buffer: &mut [u8], size: usize, dropped: &[u64]) -> Result<usize, Refusal> {
+    let mut new_size = 0;
+    // SAFETY: two slices, each passed as its own pointer and length; `buffer` is the
+    // `&mut`. `new_size` is a number of this function.
+    let number = unsafe {
+        aez_day_clear(
+            buffer.as_mut_ptr(),
+            buffer.len(),
+            size as u64,
+            dropped.as_ptr(),
+            dropped.len(),
+            &mut new_size,
+        )
+    };
+    done(number)?;
+    // At most `size`, and that at most the length of `buffer`: `clearing`.
+    Ok(new_size as usize)
+}
+
+/// Appends a record to the day file that is the first `size` bytes of `buffer`, and
+/// returns its new length.
+pub fn append(
+    buffer: &mut [u8],
+    size: usize,
+    number: u64,
+    header: &[u8],
+    stretch: u64,
+    sealed: &[u8],
+) -> Result<usize, Refusal> {
+    let mut new_size = 0;
+    // SAFETY: three slices, each passed as its own pointer and length; `buffer` is the
+    // `&mut`. `new_size` is a number of this function.
+    let number = unsafe {
+        aez_day_append(
+            buffer.as_mut_ptr(),
+            buffer.len(),
+            size as u64,
+            number,
+            header.as_ptr(),
+            header.len(),
+            stretch,
+            sealed.as_ptr(),
+            sealed.len(),
+            &mut new_size,
+        )
+    };
+    done(number)?;
+    // By test 6 it is at most the length of `buffer`.
+    Ok(new_size as usize)
 }
