@@ -9,12 +9,12 @@
  *     point anywhere else: nothing is read or written there. One to uint64_t is
  *     aligned for it, also then.
  *   - As many bytes, or numbers, as the length says can be read there, and written
- *     at `out`, at `places` and at `figures`.
- *   - No input shares a byte with `out`, `places` or `figures`. Inputs may share bytes
- *     among themselves.
- *   - Nothing else writes the inputs, or touches `out`, `places` or `figures`, before
- *     the call returns.
- *   - A pointer to a number that a call sets (`place`, `strings`, `size`,
+ *     at `out`, at `buffer`, at `places` and at `figures`.
+ *   - No input shares a byte with `out`, `buffer`, `places` or `figures`. Inputs may
+ *     share bytes among themselves.
+ *   - Nothing else writes the inputs, or touches `out`, `buffer`, `places` or `figures`,
+ *     before the call returns.
+ *   - A pointer to a number that a call sets (`place`, `strings`, `size`, `new_size`,
  *     `microseconds`, and `headers` or `records` as a uint64_t *) points at a uint64_t,
  *     which shares no byte with anything else that is passed.
  *
@@ -55,8 +55,9 @@ extern "C" {
 /*
  * The answers, in the order in which they are tested, but for the log header
  * builder, which tests 8 and then 6, and for the calls on a day file, which test 9
- * before all others. After answers 1 to 6, 8 and 9 all of `out`, `places` or `figures`
- * is unchanged. After every answer so is what stands behind that which is written.
+ * before all others. After answers 1 to 6, 8, 9 and 17 all of `out`, `buffer`, `places`
+ * or `figures` is unchanged. After every answer so is what stands behind that which is
+ * written.
  */
 enum {
     AEZ_DONE = 0,
@@ -65,12 +66,13 @@ enum {
     AEZ_HEADER_UNREADABLE = 3,    /* the header does not read */
     AEZ_TOO_LONG = 4,             /* sealed string or day file: it is, or would be, above 65,536 bytes */
     AEZ_SHORTER_THAN_STRETCH = 5, /* opening: the sealed string is shorter than the stretch */
-    AEZ_OUTPUT_TOO_SHORT = 6,     /* `out`, `places` or `figures` is too short */
+    AEZ_OUTPUT_TOO_SHORT = 6,     /* `out`, `places` or `figures` is too short, or `buffer` for an append */
     AEZ_CHECK_FAILS = 7,          /* opening: nothing seals to this string */
     AEZ_ITEM_TOO_LONG = 8,        /* log header: an item is above 1,024 bytes */
     AEZ_DAY_UNREADABLE = 9,       /* the day file does not read, lacks the record, or can't be written */
     AEZ_LOCALE_UNKNOWN = 15,      /* pause: the locale is unknown, or the header has not four items */
-    AEZ_NOT_A_PAUSE = 16          /* pause: the text is none as its locale writes one */
+    AEZ_NOT_A_PAUSE = 16,         /* pause: the text is none as its locale writes one */
+    AEZ_WRONG_LIST = 17           /* clearing: the list is not strictly rising, or names no record */
 };
 
 /*
@@ -202,6 +204,45 @@ uint32_t aez_day_open(const uint8_t *key, size_t key_len,
 uint32_t aez_day_list(const uint8_t *file, size_t file_len,
                       uint64_t *places, size_t places_len,
                       uint64_t *headers, uint64_t *records);
+
+/*
+ * The two calls that change a day file where it stands: the first `size` bytes of
+ * `buffer`. Answer 9: `size` is above buffer_len, or these bytes do not read as a day
+ * file. After answer 0 the file is the first *new_size bytes of `buffer`, and after every
+ * other *new_size is 0 and no byte of `buffer` is changed.
+ */
+
+/*
+ * Clears out the records of these numbers. Then 17: `dropped` is not strictly rising, or
+ * has a number that is not that of a record. It may be empty. The records that are kept
+ * stand in the order that they had, each with the header, the stretch and the sealed
+ * string that it had, and are numbered anew; headers that none of them names go, also
+ * those that no record named before; the index is built anew. The bytes from *new_size to
+ * `size` are zero, and those from `size` on unchanged.
+ * Answers 0, 9, 17.
+ */
+uint32_t aez_day_clear(uint8_t *buffer, size_t buffer_len,
+                       uint64_t size,
+                       const uint64_t *dropped, size_t dropped_len,
+                       uint64_t *new_size);
+
+/*
+ * Appends a record, which is the last then. `number` is that of a header of the file,
+ * and then `header` is not looked at; or the next number, the count of the file's
+ * headers, and then `header` is put last among them. Answer 9 also: `number` is larger, or
+ * is the next and `header` does not read, or the stretch is above 64. Then 6: the file
+ * would be above buffer_len or above 65,536 bytes. Its length is then
+ *     size + 11 + sealed_len, and 2 + header_len more with a new header.
+ * The bytes from *new_size on are unchanged.
+ * Answers 0, 9, 6.
+ */
+uint32_t aez_day_append(uint8_t *buffer, size_t buffer_len,
+                        uint64_t size,
+                        uint64_t number,
+                        const uint8_t *header, size_t header_len,
+                        uint64_t stretch,
+                        const uint8_t *sealed, size_t sealed_len,
+                        uint64_t *new_size);
 
 /*
  * Reads an opened text as a pause under its header. After answer 0 *microseconds is

@@ -59,6 +59,40 @@ static void day(const uint8_t *key)
     printf("day_write %u: %u bytes\n", (unsigned)answer, (unsigned)size);
 }
 
+/* A day of two records grown from none and cleared in one buffer. */
+static void edits(const uint8_t *key)
+{
+    static const uint8_t one[] = {1, 0, 0}, other[] = {1, 0, 1, 7};
+    static const uint64_t first[] = {0}, twice[] = {0, 0};
+    uint8_t sealed[9], opened[9], buffer[60] = {0};
+    uint64_t size = 12, new_size = 99;
+    uint32_t answer;
+
+    buffer[59] = 0xa5;
+    aez_seal(key, 48, other, 4, 4, (const uint8_t *)"hello", 5, sealed, 9);
+    answer = aez_day_append(buffer, sizeof buffer, size, 0, one, 3, 0, sealed, 0, &size);
+    print("day_append", answer, buffer, (size_t)size);
+    answer = aez_day_append(buffer, sizeof buffer, size, 1, other, 4, 4, sealed, 9, &size);
+    print("day_append", answer, buffer, (size_t)size);
+    answer = aez_day_append(buffer, sizeof buffer, size, 0, other, 0, 0, sealed, 0, &new_size);
+    printf("day_append %u: %u bytes\n", (unsigned)answer, (unsigned)new_size);
+    new_size = 99;
+    answer = aez_day_append(buffer, sizeof buffer, size, 3, other, 4, 0, sealed, 0, &new_size);
+    printf("day_append %u: %u bytes\n", (unsigned)answer, (unsigned)new_size);
+    new_size = 99;
+    answer = aez_day_clear(buffer, sizeof buffer, size, twice, 2, &new_size);
+    printf("day_clear %u: %u bytes\n", answer == AEZ_WRONG_LIST ? (unsigned)answer : 99,
+           (unsigned)new_size);
+    new_size = 99;
+    answer = aez_day_clear(buffer, sizeof buffer, 61, first, 1, &new_size);
+    printf("day_clear %u: %u bytes\n", (unsigned)answer, (unsigned)new_size);
+    answer = aez_day_clear(buffer, sizeof buffer, size, first, 1, &new_size);
+    print("day_clear", answer, buffer, sizeof buffer);
+    printf("%u bytes\n", (unsigned)new_size);
+    answer = aez_day_open(key, 48, buffer, (size_t)new_size, 0, opened, 9, &size);
+    print("day_open", answer, opened, (size_t)size);
+}
+
 /* A pause by itself, and a day of two, one of them refused. */
 static void pauses(const uint8_t *key)
 {
@@ -152,6 +186,7 @@ int main(void)
     answer = aez_log_header(nonce, 1, host, 2, none, 0, locale, 2, built, 13);
     print("log_header", answer == AEZ_OUTPUT_TOO_SHORT ? answer : 99, built, 0);
     day(key);
+    edits(key);
     pauses(key);
     return 0;
 }

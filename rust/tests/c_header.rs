@@ -46,7 +46,7 @@ open 7 000000000000000000000000000000000000000000
 seal 2 
 log_header 6 
 ";
-    let expected = format!("{expected}{}{PAUSES}", day());
+    let expected = format!("{expected}{}{}{PAUSES}", day(), edits());
     assert_eq!(String::from_utf8_lossy(&run.stdout), expected);
 }
 
@@ -61,12 +61,16 @@ report_figures 0: 1 1 1204000 1204000 1204000 1
 report_figures 6
 ";
 
-/// The part on day files. "hello" under the header of one string 07 is sealed by the
-/// second program here.
-fn day() -> String {
+/// "hello" under the header of one string 07, sealed by the second program.
+fn hello() -> String {
     let mut sealed = [0; 9];
     document01::seal(&counting(48), &[1, 0, 1, 7], 4, b"hello", &mut sealed);
-    let sealed = hex(&sealed);
+    hex(&sealed)
+}
+
+/// The part on day files.
+fn day() -> String {
+    let sealed = hello();
     format!(
         "\
 day_write 0 0000000200030100000004010001070000000200010400000009{sealed}\
@@ -79,6 +83,44 @@ day_open 0 68656c6c6f00000000
 day_open 9: 0 bytes
 day_records 9: 0
 day_write 9: 0 bytes
+"
+    )
+}
+
+/// The part on clearing and appending: the files were written by hand.
+fn edits() -> String {
+    let sealed = hello();
+    let zeros = "00".repeat(21);
+    format!(
+        "\
+day_append 0 00000001\
+0003010000\
+00000001\
+00000000000000\
+00000001\
+0000000d
+day_append 0 00000002\
+0003010000\
+000401000107\
+00000002\
+00000000000000\
+00010400000009{sealed}\
+00000002\
+00000013\
+0000001a
+day_append 6: 0 bytes
+day_append 9: 0 bytes
+day_clear 17: 0 bytes
+day_clear 9: 0 bytes
+day_clear 0 00000001\
+000401000107\
+00000001\
+00000400000009{sealed}\
+00000001\
+0000000e\
+{zeros}a5
+38 bytes
+day_open 0 68656c6c6f
 "
     )
 }
