@@ -7,7 +7,7 @@ use std::ops::Range;
 use crate::document01::{self, done, read_header, refusal, Answer, STRETCH_LIMIT};
 
 /// The longest file, in bytes.
-const FILE_LIMIT: usize = 65_536;
+pub(crate) const FILE_LIMIT: usize = 65_536;
 /// The largest number that stands in a record's two bytes.
 const HEADER_NUMBER_LIMIT: u64 = 65_535;
 
@@ -200,7 +200,7 @@ pub fn write(lists: &Lists, out: &mut [u8]) -> Answer {
 
 /// The file of any length; nothing where a header, a stretch or a header's number is
 /// outside the layout, or where the lists do not fit each other.
-fn file_of(lists: &Lists) -> Option<Vec<u8>> {
+pub(crate) fn file_of(lists: &Lists) -> Option<Vec<u8>> {
     let headers = cut(lists.headers, lists.header_lengths)?;
     let strings = cut(lists.sealed, lists.record_lengths)?;
     let records = strings.len();

@@ -3,6 +3,7 @@
 //! compared with them, byte for byte: plain code, not fast, not constant time.
 
 pub mod aes;
+pub mod day_edits;
 pub mod day_file;
 pub mod document01;
 pub mod figure5;
