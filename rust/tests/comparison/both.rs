@@ -7,7 +7,7 @@ use support::pattern;
 use crate::exports::{self, Inputs};
 
 /// Bytes beside the output, to see that a call stays within it.
-const BESIDE: usize = 16;
+pub const BESIDE: usize = 16;
 
 /// What a number holds before a call that is to set it: no count, and no entry.
 pub const UNSET: u64 = 99;
@@ -156,7 +156,7 @@ pub fn same(
 
 /// Holds an output, and what stands beside it, to what it should be.
 #[track_caller]
-fn same_bytes(number: u32, whole: &[u8], expected: &[u8]) {
+pub fn same_bytes(number: u32, whole: &[u8], expected: &[u8]) {
     if let Some(place) = (0..whole.len()).find(|&place| whole[place] != expected[place]) {
         panic!(
             "answer {number}, output of {} bytes: byte {} is {:02x} and not {:02x}",

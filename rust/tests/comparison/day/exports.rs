@@ -3,6 +3,8 @@
 
 use jarrovento::DayLists;
 
+use super::changed::New;
+
 unsafe extern "C" {
     fn aez_day_write(
         header_lengths: *const u64,
@@ -42,6 +44,28 @@ unsafe extern "C" {
         places_len: usize,
         headers: *mut u64,
         records: *mut u64,
+    ) -> u32;
+
+    fn aez_day_clear(
+        buffer: *mut u8,
+        buffer_len: usize,
+        size: u64,
+        dropped: *const u64,
+        dropped_len: usize,
+        new_size: *mut u64,
+    ) -> u32;
+
+    fn aez_day_append(
+        buffer: *mut u8,
+        buffer_len: usize,
+        size: u64,
+        number: u64,
+        header: *const u8,
+        header_len: usize,
+        stretch: u64,
+        sealed: *const u8,
+        sealed_len: usize,
+        new_size: *mut u64,
     ) -> u32;
 }
 
@@ -102,6 +126,40 @@ pub fn list(file: &[u8], places: &mut [u64], headers: &mut u64, records: &mut u6
             places.len(),
             headers,
             records,
+        )
+    }
+}
+
+pub fn clear(buffer: &mut [u8], size: u64, dropped: &[u64], new_size: &mut u64) -> u32 {
+    // SAFETY: two slices, each passed as its own pointer and length; `buffer` and
+    // `new_size` are the two `&mut`.
+    unsafe {
+        aez_day_clear(
+            buffer.as_mut_ptr(),
+            buffer.len(),
+            size,
+            dropped.as_ptr(),
+            dropped.len(),
+            new_size,
+        )
+    }
+}
+
+pub fn append(buffer: &mut [u8], size: u64, new: &New, new_size: &mut u64) -> u32 {
+    // SAFETY: three slices, each passed as its own pointer and length; `buffer` and
+    // `new_size` are the two `&mut`.
+    unsafe {
+        aez_day_append(
+            buffer.as_mut_ptr(),
+            buffer.len(),
+            size,
+            new.number,
+            new.header.as_ptr(),
+            new.header.len(),
+            new.stretch,
+            new.sealed.as_ptr(),
+            new.sealed.len(),
+            new_size,
         )
     }
 }
