@@ -1,4 +1,5 @@
-//! `jarrovento day`: lists, opens and writes day files.
+//! `jarrovento day`: lists, opens and writes day files. `day_edits.rs` has the commands
+//! that change one.
 
 use std::collections::HashMap;
 use std::ffi::{OsStr, OsString};
@@ -8,8 +9,7 @@ use jarrovento::{Day, DayWriter, Record, Refusal, LONGEST_DAY, LONGEST_SEALED};
 use crate::arguments::Arguments;
 use crate::failure::Failure;
 use crate::input::{self, Input};
-use crate::lines::{self, Line};
-use crate::{output, write_result, HELP};
+use crate::{day_edits, lines, output, write_result, HELP};
 
 pub fn run(words: &[OsString]) -> Result<(), Failure> {
     let Some((command, words)) = words.split_first() else {
@@ -22,6 +22,8 @@ pub fn run(words: &[OsString]) -> Result<(), Failure> {
         Some("list") => list(words),
         Some("open") => open(words),
         Some("write") => write(words),
+        Some("clear") => day_edits::clear(words),
+        Some("add") => day_edits::add(words),
         _ => Err(Failure::usage(format!(
             "no such command: day {}",
             command.display()
@@ -81,10 +83,17 @@ pub fn told(refusal: Refusal, file: &[u8]) -> Failure {
     }
     let why = match Day::count(file) {
         Err(_) => "the file does not read".to_string(),
-        Ok(0) => "the file reads, and has no records".to_string(),
-        Ok(records) => format!("the file reads, and its last record is {}", records - 1),
+        Ok(records) => last_of(records, "record"),
     };
     Failure::RefusedWith(refusal, why)
+}
+
+/// Which numbers a file that reads has: of its records, or of its headers.
+pub fn last_of(count: usize, what: &str) -> String {
+    match count {
+        0 => format!("the file reads, and has no {what}s"),
+        _ => format!("the file reads, and its last {what} is {}", count - 1),
+    }
 }
 
 fn write(words: &[OsString]) -> Result<(), Failure> {
@@ -111,7 +120,10 @@ fn collected(input: Input) -> Result<(Writer, Option<String>), Failure> {
     let mut length = 12;
     for line in lines::read(input) {
         let line = line?;
-        outside = outside.or_else(|| outside_layout(&line));
+        outside = outside.or_else(|| {
+            let why = outside_layout(&line.header, line.stretch)?;
+            Some(format!("line {}: {why}", line.number))
+        });
         let number = *numbers.entry(line.header).or_insert_with_key(|header| {
             // A header after its length.
             length += 2 + header.len();
@@ -127,12 +139,11 @@ fn collected(input: Input) -> Result<(Writer, Option<String>), Failure> {
     Ok((writer, outside))
 }
 
-/// Why no file can be written with this line: for the message alone. The answer is the
-/// writer's.
-fn outside_layout(line: &Line) -> Option<String> {
-    let number = line.number;
-    if let Err(entry) = jarrovento::read_header(&line.header) {
-        return Some(format!("line {number}: the header does not read, {entry}"));
+/// Why no record under this header and with this stretch can be in a day file: for the
+/// message alone. The answer is the library's.
+pub fn outside_layout(header: &[u8], stretch: u64) -> Option<String> {
+    if let Err(entry) = jarrovento::read_header(header) {
+        return Some(format!("the header does not read, {entry}"));
     }
-    (line.stretch > 64).then(|| format!("line {number}: the stretch is above 64 bytes"))
+    (stretch > 64).then(|| "the stretch is above 64 bytes".to_string())
 }

@@ -37,6 +37,12 @@ impl Input {
         }
     }
 
+    /// A file that is open.
+    pub fn of(name: &OsStr, file: File) -> Input {
+        let name = name.into();
+        Input { name, file }
+    }
+
     /// The bytes as they are.
     pub fn bytes(self) -> Result<Vec<u8>, Failure> {
         let mut content = Vec::new();

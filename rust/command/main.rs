@@ -2,7 +2,9 @@
 //! the shell. `help.txt` says what it does.
 
 mod arguments;
+mod change;
 mod day;
+mod day_edits;
 mod demo;
 mod demo_day;
 mod demo_report;
@@ -115,12 +117,7 @@ fn seal_or_open(words: &[OsString], call: Call) -> Result<(), Failure> {
     let header = header_given(&arguments)?;
     let stretch = arguments.number("--stretch", "a number of bytes")?;
     let key_file = Input::open(Some(arguments.required("--key")?))?.bytes()?;
-    let input = Input::open(arguments.value("--in"))?;
-    let input = if arguments.flag("--hex-in") {
-        input.hex()?
-    } else {
-        input.bytes()?
-    };
+    let input = input_given(&arguments)?;
     // All is read. From here on document 01's tests, in its order: the key first.
     let key = input::key(key_file)?;
     let mut out = vec![0; LONGEST_SEALED];
@@ -138,6 +135,15 @@ fn header_given(arguments: &Arguments) -> Result<Vec<u8>, Failure> {
         (None, None) => Err(Failure::usage("--header or --header-file is missing")),
         (Some(_), Some(_)) => Err(Failure::usage("--header and --header-file are both given")),
     }
+}
+
+/// What `--in` names, or standard input.
+fn input_given(arguments: &Arguments) -> Result<Vec<u8>, Failure> {
+    let input = Input::open(arguments.value("--in"))?;
+    if arguments.flag("--hex-in") {
+        return input.hex();
+    }
+    input.bytes()
 }
 
 fn write_result(arguments: &Arguments, result: &[u8]) -> Result<(), Failure> {

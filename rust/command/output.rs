@@ -64,7 +64,7 @@ fn is_standard_output(found: &Metadata) -> io::Result<bool> {
 
 /// Writes a second file in the same folder and then gives it the name, so that
 /// nobody finds a part of the content there. `old` is what has the name so far.
-fn replace(name: &Path, old: Option<&Metadata>, content: &[u8]) -> io::Result<()> {
+pub fn replace(name: &Path, old: Option<&Metadata>, content: &[u8]) -> io::Result<()> {
     let folder = name.parent().unwrap_or(Path::new(""));
     // Nobody else reads it before it has the old file's permissions.
     let mode = if old.is_some() { 0o600 } else { 0o666 };

@@ -1,5 +1,6 @@
 //! `--help` and `demo`: what they show is what comes out.
 
+use std::os::unix::fs::symlink;
 use std::path::Path;
 use std::process::Command;
 
@@ -7,7 +8,7 @@ use jarrovento::Refusal;
 use second::document01;
 use support::{counting, header, hex};
 
-use crate::{done, jarrovento, run};
+use crate::{done, folder, jarrovento, run};
 
 #[test]
 fn help_names_every_refusal() {
@@ -27,6 +28,8 @@ fn help_names_every_refusal() {
         &["day", "list"],
         &["day", "open"],
         &["day", "write"],
+        &["day", "clear"],
+        &["day", "add"],
         &["report"],
         &["demo"],
     ] {
@@ -61,16 +64,19 @@ fn shown_use(help: &str) -> Vec<(String, String)> {
 fn the_use_in_the_help_comes_out_as_shown() {
     let help = String::from_utf8(jarrovento(&["--help"], b"").stdout).unwrap();
     let shown = shown_use(&help);
-    assert_eq!(shown.len(), 11);
-    let folder = Path::new(env!("CARGO_BIN_EXE_jarrovento"))
+    assert_eq!(shown.len(), 17);
+    let programs = Path::new(env!("CARGO_BIN_EXE_jarrovento"))
         .parent()
         .unwrap();
+    // As from the root of the repository, and what is written is not left there.
+    let folder = folder("help");
+    symlink(env!("CARGO_MANIFEST_DIR"), folder.join("rust")).unwrap();
     for (command, output) in shown {
         let mut shell = Command::new("sh");
         shell
             .args(["-c", &format!("PATH=\"$0:$PATH\"; {{ {command}\n}} 2>&1")])
-            .arg(folder)
-            .current_dir(Path::new(env!("CARGO_MANIFEST_DIR")).join(".."));
+            .arg(programs)
+            .current_dir(&folder);
         let run = run(&mut shell, b"");
         assert_eq!(
             String::from_utf8_lossy(&run.stdout).trim_end(),

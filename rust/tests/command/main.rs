@@ -2,6 +2,7 @@
 
 mod check_header;
 mod day;
+mod day_edits;
 mod day_lines;
 mod headers;
 mod help;
@@ -10,6 +11,7 @@ mod outputs;
 mod refusals;
 mod report;
 mod round_trips;
+mod stopped;
 mod trouble;
 
 use std::ffi::OsStr;
@@ -70,6 +72,16 @@ fn folder(test: &str) -> PathBuf {
     }
     fs::create_dir_all(&folder).unwrap();
     folder
+}
+
+/// The names in a folder, in order.
+fn names(folder: &Path) -> Vec<String> {
+    let entries = fs::read_dir(folder).unwrap();
+    let mut names: Vec<String> = entries
+        .map(|entry| entry.unwrap().file_name().into_string().unwrap())
+        .collect();
+    names.sort();
+    names
 }
 
 /// Writes a file, and returns its name.

@@ -4,13 +4,12 @@
 use std::fs::{self, File, Permissions};
 use std::io::Read;
 use std::os::unix::fs::{chown, symlink, FileTypeExt, MetadataExt, PermissionsExt};
-use std::path::Path;
 use std::process::Command;
 use std::thread;
 
 use support::unhex;
 
-use crate::{done, fails, file, folder, jarrovento, program, run};
+use crate::{done, fails, file, folder, jarrovento, names, program, run};
 
 /// A log header, as hex; `header` needs no file but its output.
 const BUILT: &str = "0400010100026e3700000000";
@@ -18,16 +17,6 @@ const BUILT: &str = "0400010100026e3700000000";
 /// The words that write that header to `out`.
 fn header(out: &str) -> [&str; 7] {
     ["header", "--nonce", "01", "--host", "n7", "--out", out]
-}
-
-/// The names in a folder, in order.
-fn names(folder: &Path) -> Vec<String> {
-    let entries = fs::read_dir(folder).unwrap();
-    let mut names: Vec<String> = entries
-        .map(|entry| entry.unwrap().file_name().into_string().unwrap())
-        .collect();
-    names.sort();
-    names
 }
 
 fn mode(path: &str) -> u32 {

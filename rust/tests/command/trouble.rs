@@ -12,7 +12,7 @@ fn wrong_command_lines() {
     let key = ["--key", "key"];
     let header = ["--header", HEADER];
     let stretch = ["--stretch", "4"];
-    let cases: [(Vec<&str>, &str); 38] = [
+    let cases: [(Vec<&str>, &str); 52] = [
         (vec![], "no command"),
         (vec!["sale"], "no such command: sale"),
         (vec!["demo", "more"], "no such option here: more"),
@@ -119,6 +119,72 @@ fn wrong_command_lines() {
             "--record 18446744073709551616 is not the number of a record",
         ),
         (vec!["day", "write", "file"], "no such option here: file"),
+        (vec!["day", "clear", "--drop", "1"], "the file is missing"),
+        (vec!["day", "clear", "file"], "--drop is missing"),
+        (
+            vec!["day", "clear", "file", "--drop", "1,,4"],
+            "--drop 1,,4 is not a list of record numbers like 1,4,7",
+        ),
+        (
+            vec!["day", "clear", "file", "--drop", "1, 4"],
+            "--drop 1, 4 is not a list of record numbers like 1,4,7",
+        ),
+        (
+            vec!["day", "clear", "file", "--drop", "-1"],
+            "--drop -1 is not a list of record numbers like 1,4,7",
+        ),
+        (
+            vec!["day", "clear", "file", "--drop", "0,18446744073709551616"],
+            "--drop 0,18446744073709551616 is not a list of record numbers like 1,4,7",
+        ),
+        (
+            vec!["day", "clear", "file", "--drop", "1", "--out", "out"],
+            "no such option here: --out",
+        ),
+        (
+            vec!["day", "add", "file", "--stretch", "4"],
+            "--header, --header-file or --header-number is missing",
+        ),
+        (
+            vec!["day", "add", "file", "--header", HEADER],
+            "--stretch is missing",
+        ),
+        (
+            vec!["day", "add", "--header", HEADER, "--stretch", "4"],
+            "the file is missing",
+        ),
+        (
+            vec!["day", "add", "file", "--header-number", "-1"],
+            "--header-number -1 is not the number of a header",
+        ),
+        (
+            vec![
+                "day",
+                "add",
+                "file",
+                "--header-number",
+                "0",
+                "--header",
+                HEADER,
+            ],
+            "--header and --header-number are both given",
+        ),
+        (
+            vec![
+                "day",
+                "add",
+                "file",
+                "--header",
+                HEADER,
+                "--header-file",
+                "file",
+            ],
+            "--header and --header-file are both given",
+        ),
+        (
+            vec!["day", "add", "file", "--header", "0", "--stretch", "4"],
+            "--header is not pairs of hex digits",
+        ),
         (vec!["report", "--key", "key"], "the file is missing"),
         (vec!["report", "file"], "--key is missing"),
         (
@@ -176,6 +242,30 @@ fn files_that_cannot_be_read_or_written() {
         vec!["day", "open", missing, "--record", "0", "--key", &key],
         vec!["day", "open", &key, "--record", "0", "--key", missing],
         vec!["day", "write", "--in", missing],
+        vec!["day", "clear", missing, "--drop", "0"],
+        vec!["day", "add", missing, "--header", HEADER, "--stretch", "4"],
+        vec![
+            "day",
+            "add",
+            &key,
+            "--header",
+            HEADER,
+            "--stretch",
+            "4",
+            "--in",
+            missing,
+        ],
+        vec![
+            "day",
+            "add",
+            &key,
+            "--header",
+            HEADER,
+            "--stretch",
+            "4",
+            "--key",
+            missing,
+        ],
         vec!["report", missing, "--key", &key],
         vec!["report", &key, "--key", missing],
     ] {
@@ -190,6 +280,7 @@ fn files_that_cannot_be_read_or_written() {
         words("open", &key, "0", &["--in", is_a_folder]),
         vec!["day", "list", is_a_folder],
         vec!["day", "write", "--in", is_a_folder],
+        vec!["day", "clear", is_a_folder, "--drop", "0"],
     ] {
         fails(
             &jarrovento(&words, b""),
