@@ -7,24 +7,19 @@
 
 mod bearssl;
 mod days;
+mod timing;
 
 use std::hint::black_box;
-use std::time::{Duration, Instant};
 
 use bearssl::{Ct64, Small};
 use second::aes::aes128;
 use second::document01;
+use timing::{best_of, machine, Contender, TURNS};
 
 const LENGTHS: [usize; 6] = [5, 31, 64, 1_024, 4_096, 65_472];
 const STRETCH: u64 = 4;
 /// The strings 01, "n7", no bytes, "de".
 const HEADER: &[u8] = b"\x04\x00\x01\x01\x00\x02n7\x00\x00\x00\x02de";
-
-/// Turns of each contender at each length, one after the other, so that a slow
-/// spell of the machine meets all of them. The best turn counts.
-const TURNS: usize = 25;
-/// How long a turn is at least: short, so that some turn of each is undisturbed.
-const TURN: Duration = Duration::from_millis(4);
 
 fn main() {
     println!(
@@ -59,9 +54,6 @@ fn print_lines(length: usize, best: [f64; 6]) {
         );
     }
 }
-
-/// What is measured: one call, on its own buffers.
-type Contender = Box<dyn FnMut()>;
 
 /// For texts of this length: sealing by the proved library and by the second
 /// program, opening by both, and BearSSL's two.
@@ -115,45 +107,4 @@ fn yardsticks(key: [u8; 16]) -> (Small, Ct64) {
     let expected = aes128(key, [0; 16]);
     assert_eq!([small_block, ct64_block], [expected; 2]);
     (small, ct64)
-}
-
-/// For each contender at each length, the nanoseconds of a call in its best turn.
-fn best_of<const L: usize, const N: usize>(contenders: [[Contender; N]; L]) -> [[f64; N]; L] {
-    let mut contenders =
-        contenders.map(|row| row.map(|mut contender| (calls_in_a_turn(&mut contender), contender)));
-    let mut best = [[f64::INFINITY; N]; L];
-    for _ in 0..TURNS {
-        let all = contenders.iter_mut().flatten();
-        for (best, (calls, contender)) in best.iter_mut().flatten().zip(all) {
-            let elapsed = time(contender, *calls);
-            *best = best.min(elapsed.as_nanos() as f64 / f64::from(*calls));
-        }
-    }
-    best
-}
-
-/// How many calls make a turn long enough.
-fn calls_in_a_turn(contender: &mut dyn FnMut()) -> u32 {
-    let mut calls = 1;
-    while time(contender, calls) < TURN {
-        calls *= 2;
-    }
-    calls
-}
-
-fn time(contender: &mut dyn FnMut(), calls: u32) -> Duration {
-    let start = Instant::now();
-    for _ in 0..calls {
-        contender();
-    }
-    start.elapsed()
-}
-
-/// The processor's name.
-fn machine() -> String {
-    let about = std::fs::read_to_string("/proc/cpuinfo").unwrap_or_default();
-    let name = about
-        .lines()
-        .find_map(|line| line.strip_prefix("model name")?.split_once(": "));
-    name.map_or("unknown".to_string(), |(_, name)| name.to_string())
 }

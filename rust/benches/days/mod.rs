@@ -6,7 +6,7 @@ use std::hint::black_box;
 use jarrovento::{Day, DayWriter, LONGEST_DAY};
 use second::day_file;
 
-use crate::{best_of, Contender};
+use crate::timing::{best_of, Contender};
 
 /// Of files of the same kind one is full, one has a quarter of its parts and one a
 /// sixteenth.
