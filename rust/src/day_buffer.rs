@@ -41,7 +41,9 @@ use crate::{proved, Day, DayLists, Refusal};
 /// ```
 pub struct DayBuffer<'a> {
     buffer: &'a mut [u8],
-    /// Of the file: what the last call handed back.
+    /// Of the file: what the last call handed back. That so many bytes read is proved of
+    /// a change in `crates/audit/proofs/EditedDays.antt`, as `cleared-reads` and
+    /// `grown-reads`, and of an empty day in `DayFiles.antt`, as `written-day`.
     length: usize,
 }
 
