@@ -3,6 +3,7 @@
 use std::fs::{self, Permissions};
 use std::os::unix::fs::{symlink, PermissionsExt};
 use std::path::Path;
+use std::process::Command;
 
 use jarrovento::{BadEntry, Refusal};
 use second::{day_edits, day_file, document01};
@@ -208,8 +209,7 @@ fn a_day_from_nothing() {
     let folder = folder("day_from_nothing");
     let day = folder.join("day");
     let day = day.to_str().unwrap();
-    let words = ["day", "write", "--in", "/dev/null", "--out", day];
-    done(&jarrovento(&words, b""));
+    done(&jarrovento(&["day", "write", "--out", day], b""));
     let sample = jarrovento(&["day", "list", SAMPLE_DAY, "--hex-out"], b"").stdout;
     let sample = String::from_utf8(sample).unwrap();
     for line in sample.lines() {
@@ -315,14 +315,20 @@ fn links_and_permissions() {
     assert_eq!(names(&folder), ["day", "link"]);
 }
 
-/// Nothing but a file can be replaced.
+/// Nothing but a file can be replaced, as here a pipe. No device is named: were the
+/// command wrong, it would replace it.
 #[test]
 fn what_is_no_file() {
+    let folder = folder("no_file");
+    let pipe = folder.join("pipe");
+    let made = Command::new("mkfifo").arg(&pipe).status();
+    assert!(made.unwrap().success());
+    let pipe = pipe.to_str().unwrap();
     for words in [
-        &["day", "clear", "/dev/null", "--drop", "0"][..],
-        &add("/dev/zero", HEADER, "4", &[]),
+        &["day", "clear", pipe, "--drop", "0"][..],
+        &add(pipe, HEADER, "4", &[]),
     ] {
-        let message = format!("{}: not a file that can be replaced", words[2]);
+        let message = format!("{pipe}: not a file that can be replaced");
         fails(&jarrovento(words, b""), 74, &message);
     }
 }

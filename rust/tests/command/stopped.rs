@@ -38,8 +38,6 @@ fn cases() -> [Case; 2] {
                 "0",
                 "--stretch",
                 "0",
-                "--in",
-                "/dev/null",
             ],
         },
     ]
