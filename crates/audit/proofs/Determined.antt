@@ -28,6 +28,10 @@ use Rattle.block.proofs.store.Reads as block-store
 use Rattle.block.proofs.copy.Reads as block-copy
 use Rattle.block.proofs.clear.Reads as block-clear
 use Rattle.block.proofs.same_bytes.Reads as block-same-bytes
+use Rattle.numbers.proofs.two.Reads as numbers-two
+use Rattle.numbers.proofs.four.Reads as numbers-four
+use Rattle.numbers.proofs.put_two.Reads as numbers-put-two
+use Rattle.numbers.proofs.put_four.Reads as numbers-put-four
 use Rattle.aes.proofs.aes4.Reads as aes-aes4
 use Rattle.aes.proofs.aes10.Reads as aes-aes10
 use Rattle.tbc.proofs.key_of.Reads as tbc-key-of
@@ -60,14 +64,11 @@ use Rattle.cipher.proofs.decrypt.Reads as cipher-decrypt
 use Rattle.record.proofs.seal.Reads as record-seal
 use Rattle.record.proofs.«open».Reads as record-open
 use Rattle.record.proofs.open_part.Reads as record-open-part
-use Rattle.day.proofs.two.Reads as day-two
 use Rattle.day.proofs.entry_at.Reads as day-entry-at
 use Rattle.day.proofs.check.Reads as day-check
 use Rattle.day.proofs.find.Reads as day-find
 use Rattle.day.proofs.list.Reads as day-list
 use Rattle.day_open.proofs.«open».Reads as day-open
-use Rattle.day_write.proofs.put_two.Reads as day-put-two
-use Rattle.day_write.proofs.put_four.Reads as day-put-four
 use Rattle.day_write.proofs.put_record.Reads as day-put-record
 use Rattle.day_write.proofs.write.Reads as day-write
 use Rattle.day_place.proofs.move_left.Reads as day-move-left
@@ -154,6 +155,20 @@ block-clear-determined κs a z w e f p q = one p q
 
 pub block-same-bytes-determined : (κs : _) (a : _) (z w : _) (e f : _) → block-same-bytes.Learnt κs a z e → block-same-bytes.Learnt κs a w f → z ≡ w
 block-same-bytes-determined κs a z w e f p q = one p q
+
+-- ---- Numbers in bytes: `numbers`
+
+pub numbers-two-determined : (κs : _) (a : _) (z w : _) (e f : _) → numbers-two.Learnt κs a z e → numbers-two.Learnt κs a w f → z ≡ w
+numbers-two-determined κs a z w e f p q = one (p .0) (q .0)
+
+pub numbers-four-determined : (κs : _) (a : _) (z w : _) (e f : _) → numbers-four.Learnt κs a z e → numbers-four.Learnt κs a w f → z ≡ w
+numbers-four-determined κs a z w e f p q = one (p .0) (q .0)
+
+pub numbers-put-two-determined : (κs : _) (a : _) (z w : _) (e f : _) → numbers-put-two.Learnt κs a z e → numbers-put-two.Learnt κs a w f → now (e .0) ≡ now (f .0)
+numbers-put-two-determined κs a z w e f p q = one p q
+
+pub numbers-put-four-determined : (κs : _) (a : _) (z w : _) (e f : _) → numbers-put-four.Learnt κs a z e → numbers-put-four.Learnt κs a w f → now (e .0) ≡ now (f .0)
+numbers-put-four-determined κs a z w e f p q = one p q
 
 -- ---- The AES round: `aes`
 
@@ -272,9 +287,6 @@ record-open-part-determined κs a z w e f p q = (one (p .0) (q .0), one (p .1) (
 
 -- ---- The day file: `day`, `day_open`, `day_write`, `day_place`, `day_append`, `day_clear`
 
-pub day-two-determined : (κs : _) (a : _) (z w : _) (e f : _) → day-two.Learnt κs a z e → day-two.Learnt κs a w f → z ≡ w
-day-two-determined κs a z w e f p q = one (p .0) (q .0)
-
 pub day-entry-at-determined : (κs : _) (a : _) (z w : _) (e f : _) → day-entry-at.Learnt κs a z e → day-entry-at.Learnt κs a w f → z ≡ w
 day-entry-at-determined κs a z w e f p q = one (p .0) (q .0)
 
@@ -292,12 +304,6 @@ day-open-determined κs a z w e f p q = one-outcome z w (now (e .1 .1 .1 .0)) (n
 
 pub day-write-determined : (κs : _) (a : _) (z w : _) (e f : _) → day-write.Learnt κs a z e → day-write.Learnt κs a w f → (z ≡ w) × (now (e .1 .1 .1 .1 .1 .1 .0) ≡ now (f .1 .1 .1 .1 .1 .1 .0))
 day-write-determined κs a z w e f p q = one-outcome z w (now (e .1 .1 .1 .1 .1 .1 .0)) (now (f .1 .1 .1 .1 .1 .1 .0)) _ p q
-
-pub day-put-two-determined : (κs : _) (a : _) (z w : _) (e f : _) → day-put-two.Learnt κs a z e → day-put-two.Learnt κs a w f → now (e .0) ≡ now (f .0)
-day-put-two-determined κs a z w e f p q = one p q
-
-pub day-put-four-determined : (κs : _) (a : _) (z w : _) (e f : _) → day-put-four.Learnt κs a z e → day-put-four.Learnt κs a w f → now (e .0) ≡ now (f .0)
-day-put-four-determined κs a z w e f p q = one p q
 
 pub day-put-record-determined : (κs : _) (a : _) (z w : _) (e f : _) → day-put-record.Learnt κs a z e → day-put-record.Learnt κs a w f → now (e .0) ≡ now (f .0)
 day-put-record-determined κs a z w e f p q = one p q

@@ -50,8 +50,7 @@ pub fn put(out: &mut [u8], at: usize, s: &[u8]) -> usize
     ensures { λ r. ⌜ (r ≡ at + length (writeStrings (now (s .entry) ∷ []))) × (now (out .exit) ≡ placed at (writeStrings (now (s .entry) ∷ [])) (now (out .entry))) ⌝ }
 {
     let size = s.len();
-    out[at] = (size / 256 % 256) as u8;
-    out[at + 1] = (size % 256) as u8;
+    numbers::put_two(out, at, size);
     block::copy(out, at + 2, s);
     at + 2 + size
 }

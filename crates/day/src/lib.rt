@@ -58,33 +58,6 @@ pub struct Listed {
     pub records: usize,
 }
 
-// A byte as a number that sums can be made of.
-fn as_number(x: u8) -> usize
-    ensures { λ r. ⌜ (r ≡ x) × (r < 256) ⌝ }
-{
-    x as usize
-}
-
-// The number of the two bytes at a place.
-pub fn two(file: &[u8], at: usize) -> usize
-    requires { ⌜ at + 2 ≤ length (now file) ⌝ }
-    ensures { λ r. ⌜ (r ≡ value (take 2 (drop at (now (file .entry))))) × (r < 65536) ⌝ }
-{
-    as_number(file[at]) * 256 + as_number(file[at + 1])
-}
-
-// The number of the four bytes at a place.
-fn four(file: &[u8], at: usize) -> usize
-    requires { ⌜ at + 4 ≤ length (now file) ⌝ }
-    ensures { λ r. ⌜ (r ≡ value (take 4 (drop at (now (file .entry))))) × (r < 4294967296) ⌝ }
-{
-    let a = as_number(file[at]);
-    let b = as_number(file[at + 1]);
-    let c = as_number(file[at + 2]);
-    let d = as_number(file[at + 3]);
-    ((a * 256 + b) * 256 + c) * 256 + d
-}
-
 // The header whose two length bytes stand at a place.
 fn header_at(file: &[u8], at: usize) -> Place
     requires { ⌜ at ≤ length (now file) ⌝ }
@@ -93,7 +66,7 @@ fn header_at(file: &[u8], at: usize) -> Place
     if file.len() - at < 2 {
         return Place::Bad;
     }
-    let size = two(file, at);
+    let size = numbers::two(file, at);
     let start = at + 2;
     if file.len() - start < size {
         return Place::Bad;
@@ -110,10 +83,10 @@ pub fn entry_at(file: &[u8], at: usize) -> Entry
     requires { ⌜ (at + 7 ≤ length (now file)) × (length (now file) ≤ 65536) ⌝ }
     ensures { λ r. ⌜ (r ≡ entryAt (now (file .entry)) at) × (r .header < 65536) ⌝ }
 {
-    let header = two(file, at);
+    let header = numbers::two(file, at);
     let stretch = file[at + 2] as u64;
     let start = at + 7;
-    let end = start + four(file, at + 3);
+    let end = start + numbers::four(file, at + 3);
     Entry {
         header,
         stretch,
@@ -173,7 +146,7 @@ fn records_right(file: &[u8], headers: usize, records: usize, first: usize) -> b
         let Step::To(e) = record_at(file, headers, at) else {
             return false;
         };
-        if four(file, place) != at {
+        if numbers::four(file, place) != at {
             return false;
         }
         at = e.end;
@@ -183,7 +156,7 @@ fn records_right(file: &[u8], headers: usize, records: usize, first: usize) -> b
     if file.len() - at != 4 + 4 * records {
         return false;
     }
-    four(file, at) == records
+    numbers::four(file, at) == records
 }
 
 // Whether a file reads, in one pass over it.
@@ -196,14 +169,14 @@ pub fn check(file: &[u8]) -> Checked
     if 65536 < file.len() {
         return Checked::Bad;
     }
-    let headers = four(file, 0);
+    let headers = numbers::four(file, 0);
     let Walk::To(end) = headers_end(file, headers) else {
         return Checked::Bad;
     };
     if file.len() - end < 4 {
         return Checked::Bad;
     }
-    let records = four(file, end);
+    let records = numbers::four(file, end);
     let first = end + 4;
     if file.len() < 4 * records {
         return Checked::Bad;
@@ -226,7 +199,7 @@ fn length_place(file: &[u8], number: usize) -> usize
     let mut at: usize = 4;
     let mut i: usize = 0;
     while i < number {
-        at = at + 2 + two(file, at);
+        at = at + 2 + numbers::two(file, at);
         i += 1;
     }
     at
@@ -238,12 +211,12 @@ pub fn find(file: &[u8], records: usize, k: usize) -> Found
     ensures { λ r. ⌜ r ≡ foundIn (readDay (now (file .entry))) k ⌝ }
     ensures within { λ r. ⌜ FoundWithin r (now (file .entry)) ⌝ }
 {
-    let place = four(file, file.len() - 4 * records + 4 * k);
+    let place = numbers::four(file, file.len() - 4 * records + 4 * k);
     let e = entry_at(file, place);
     let header = e.header;
     let at = length_place(file, header);
     let header_start = at + 2;
-    let header_end = header_start + two(file, at);
+    let header_end = header_start + numbers::two(file, at);
     Found {
         header_start,
         header_end,
@@ -271,7 +244,7 @@ fn list_headers(file: &[u8], headers: usize, places: &mut [u64])
     let mut i: usize = 0;
     while i < headers {
         let start = at + 2;
-        let end = start + two(file, at);
+        let end = start + numbers::two(file, at);
         put_two(places, 2 * i, start as u64, end as u64);
         at = end;
         i += 1;

@@ -75,7 +75,7 @@ fn put_last(
 {
     day_write::put_record(out, at, number, stretch as usize, sealed);
     day_place::put_index(out, first, records + 1, at + 7 + sealed.len());
-    day_write::put_four(out, first - 4, records + 1);
+    numbers::put_four(out, first - 4, records + 1);
 }
 
 // The grown file put first in the buffer that holds the file.
@@ -102,7 +102,7 @@ fn put_grown(
     let more = 2 + header.len();
     day_place::move_right(out, end + more, end, last - end);
     builder::put(out, end, header);
-    day_write::put_four(out, 0, headers + 1);
+    numbers::put_four(out, 0, headers + 1);
     put_last(
         out,
         records,

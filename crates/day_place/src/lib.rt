@@ -41,7 +41,7 @@ fn put_places(out: &mut [u8], first: usize, records: usize, at: usize)
     let mut place = first;
     let mut i: usize = 0;
     while i < records {
-        day_write::put_four(out, at + 4 + 4 * i, place);
+        numbers::put_four(out, at + 4 + 4 * i, place);
         let e = day::entry_at(&out[..at], place);
         place = e.end;
         i += 1;
@@ -54,5 +54,5 @@ pub fn put_index(out: &mut [u8], first: usize, records: usize, at: usize)
     ensures { λ _. ⌜ now (out .exit) ≡ placed at (digits 256 4 records ++ writePlaces (placesOf (take at (now (out .entry))) first records)) (now (out .entry)) ⌝ }
 {
     put_places(out, first, records, at);
-    day_write::put_four(out, at, records);
+    numbers::put_four(out, at, records);
 }

@@ -119,26 +119,6 @@ fn settled(
     9
 }
 
-// A number put at a place in two bytes.
-pub fn put_two(out: &mut [u8], at: usize, n: usize)
-    requires { ⌜ at + 2 ≤ length (now out) ⌝ }
-    ensures { λ _. ⌜ now (out .exit) ≡ placed at (digits 256 2 n) (now (out .entry)) ⌝ }
-{
-    out[at] = (n / 256 % 256) as u8;
-    out[at + 1] = (n % 256) as u8;
-}
-
-// A number put at a place in four bytes.
-pub fn put_four(out: &mut [u8], at: usize, n: usize)
-    requires { ⌜ at + 4 ≤ length (now out) ⌝ }
-    ensures { λ _. ⌜ now (out .exit) ≡ placed at (digits 256 4 n) (now (out .entry)) ⌝ }
-{
-    out[at] = (n / 256 / 256 / 256 % 256) as u8;
-    out[at + 1] = (n / 256 / 256 % 256) as u8;
-    out[at + 2] = (n / 256 % 256) as u8;
-    out[at + 3] = (n % 256) as u8;
-}
-
 // The headers put at a place, each after its two-byte length. The place after them is returned.
 fn put_headers(lengths: &[u64], headers: &[u8], out: &mut [u8], start: usize) -> usize
     requires { ⌜ (present (headersOf (now lengths) (now headers)) ≡ true) × (start + 2 * length (now lengths) + length (now headers) ≤ length (now out)) ⌝ }
@@ -161,9 +141,9 @@ pub fn put_record(out: &mut [u8], at: usize, number: usize, stretch: usize, seal
     requires { ⌜ (stretch < 256) × (at + 7 + length (now sealed) ≤ length (now out)) ⌝ }
     ensures { λ _. ⌜ now (out .exit) ≡ placed at (writeRecord (recordWith number stretch (now (sealed .entry)))) (now (out .entry)) ⌝ }
 {
-    put_two(out, at, number);
+    numbers::put_two(out, at, number);
     out[at + 2] = stretch as u8;
-    put_four(out, at + 3, sealed.len());
+    numbers::put_four(out, at + 3, sealed.len());
     block::copy(out, at + 7, sealed);
 }
 
@@ -208,7 +188,7 @@ fn put_places(sizes: &[u64], first: usize, out: &mut [u8], start: usize)
     let mut place = first;
     let mut i: usize = 0;
     while i < sizes.len() {
-        put_four(out, start + 4 * i, place);
+        numbers::put_four(out, start + 4 * i, place);
         place = place + 7 + sizes[i] as usize;
         i += 1;
     }
@@ -238,12 +218,12 @@ pub fn write(
     if number != 0 {
         return Answer { number, length: 0 };
     }
-    put_four(out, 0, lengths.len());
+    numbers::put_four(out, 0, lengths.len());
     let end = put_headers(lengths, headers, out, 4);
-    put_four(out, end, sizes.len());
+    numbers::put_four(out, end, sizes.len());
     let first = end + 4;
     let index = put_records(lengths.len(), numbers, stretches, sizes, sealed, out, first);
-    put_four(out, index, sizes.len());
+    numbers::put_four(out, index, sizes.len());
     put_places(sizes, first, out, index + 4);
     let length = size(lengths.len(), headers.len(), sizes.len(), sealed.len());
     Answer { number, length }

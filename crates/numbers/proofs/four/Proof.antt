@@ -1,9 +1,9 @@
--- `day::four` meets its contract.
+-- `numbers::four` meets its contract.
 use native.Mathlib.Omega.{arith}
-use Rattle.day.proofs.Bytes.{four-at}
+use Rattle.numbers.proofs.Bytes.{four-at}
 use borrow.Author.Needs.{needs}
-use Rattle.day.proofs.four.Statement.{statement}
-use Rattle.day.proofs.four.Tie as tie
+use Rattle.numbers.proofs.four.Statement.{statement}
+use Rattle.numbers.proofs.four.Tie as tie
 
 abbrev start : tie.After-as-number → tie.Start
 start c = c .before .before .before
@@ -65,7 +65,7 @@ returns c =
     let second = third .before .before in
     let first = second .before .before in
     let a = start first .args in (
-      four-at (a .file .now) (a .at) (first .as-number .result) (second .as-number2 .result) (first .as-number .ensures .0) (second .as-number2 .ensures .0)
+      four-at (a .s .now) (a .at) (first .as-number .result) (second .as-number2 .result) (first .as-number .ensures .0) (second .as-number2 .ensures .0)
           (third .as-number3 .result) (c .as-number4 .result) (third .as-number3 .ensures .0) (c .as-number4 .ensures .0) (start first .pre),
       omega arith,
     )

@@ -1,12 +1,12 @@
--- `day_write::put_two` meets its contract.
+-- `numbers::put_two` meets its contract.
 use native.Mathlib.Omega.{arith}
 use Prim.Native.Nat.{_/_, _%_}
 use lib.ListN.{length-set}
 use Rattle.paper.specs.Strings.{digits}
 use Rattle.laws.proofs.Placed.{stored-two}
 use borrow.Author.Needs.{needs}
-use Rattle.day_write.proofs.put_two.Statement.{statement}
-use Rattle.day_write.proofs.put_two.Tie as tie
+use Rattle.numbers.proofs.put_two.Statement.{statement}
+use Rattle.numbers.proofs.put_two.Tie as tie
 
 cast-out : tie.Need-cast-out
 cast-out c = search needs

@@ -1,4 +1,4 @@
--- `day_write::put_four` meets its contract.
+-- `numbers::put_four` meets its contract.
 use mathlib.Core.List.{[], _∷_}
 use mathlib.Core.Path.{_≡_, _∙_}
 use Prim.Native.Nat.{ℕ, suc, _+_, _/_, _%_, _≤_}
@@ -8,8 +8,8 @@ use lib.Seq.{sets-eq}
 use Rattle.paper.specs.Strings.{Bytes, digits}
 use Rattle.laws.specs.Placing.{placed}
 use borrow.Author.Needs.{needs}
-use Rattle.day_write.proofs.put_four.Statement.{statement}
-use Rattle.day_write.proofs.put_four.Tie as tie
+use Rattle.numbers.proofs.put_four.Statement.{statement}
+use Rattle.numbers.proofs.put_four.Tie as tie
 
 -- four bytes that are stored
 stored-four : (at w x y z : ℕ) (out : Bytes) → at + 4 ≤ length out → set (set (set (set out at w) (at + 1) x) (at + 2) y) (at + 3) z ≡ placed at (w ∷ x ∷ y ∷ z ∷ []) out

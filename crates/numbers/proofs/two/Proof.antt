@@ -1,9 +1,9 @@
--- `day::two` meets its contract.
+-- `numbers::two` meets its contract.
 use native.Mathlib.Omega.{arith}
-use Rattle.day.proofs.Bytes.{two-at}
+use Rattle.numbers.proofs.Bytes.{two-at}
 use borrow.Author.Needs.{needs}
-use Rattle.day.proofs.two.Statement.{statement}
-use Rattle.day.proofs.two.Tie as tie
+use Rattle.numbers.proofs.two.Statement.{statement}
+use Rattle.numbers.proofs.two.Tie as tie
 
 abbrev start : tie.After-as-number → tie.Start
 start c = c .before .before .before
@@ -33,7 +33,7 @@ returns : tie.Need-returns
 returns c =
     let high = c .before .before in
     let a = start high .args in
-    (two-at (a .file .now) (a .at) (high .as-number .result) (c .as-number2 .result) (high .as-number .ensures .0) (c .as-number2 .ensures .0) (start high .pre), omega arith)
+    (two-at (a .s .now) (a .at) (high .as-number .result) (c .as-number2 .result) (high .as-number .ensures .0) (c .as-number2 .ensures .0) (start high .pre), omega arith)
 
 pub two-spec : {M : Type 1} → statement M
 two-spec =

@@ -1,4 +1,4 @@
--- The numbers of the bytes at a place of a file.
+-- The numbers of the bytes at a place.
 use mathlib.Core.List.{[], _∷_}
 use mathlib.Core.Path.{_≡_, ap, _∙_}
 use Prim.Native.Nat.{ℕ, suc, _+_, _*_, _≤_, _<_}
