@@ -18,6 +18,13 @@ ghost use Rattle.day.specs.Finds.{recordsIn};
 ghost use Rattle.pause.specs.Answers.{markAs};
 ghost use Rattle.line.specs.Reports.{meaning};
 ghost use Rattle.ledger.specs.Pauses.{takenAs, pausesIn, pauseAt, totalsOf, addedTo, microsecondsIn};
+ghost use Rattle.ledger.specs.Reports.{reportedAs};
+
+// The report of a file, or the number by which it is refused.
+enum Told {
+    Refused(u32),
+    Is(Report),
+}
 
 // The pause of a sealed string under a header with this mark, opened into a buffer of just its length.
 fn open_in(key: &[u8], header: &[u8], stretch: u64, sealed: &[u8], mark: u8, out: &mut [u8]) -> Read
@@ -129,9 +136,9 @@ fn report_of(key: &[u8], file: &[u8], records: usize) -> Report
     line::with_mean(t)
 }
 
-// The report's line. Nothing is written before the answer is settled.
-pub fn report(key: &[u8], file: &[u8], out: &mut [u8]) -> Answer
-    ensures { λ r. ⌜ outcome r (now (out .exit)) ≡ reporting (now (key .entry)) (now (file .entry)) (now (out .entry)) ⌝ }
+// The report of a file, or the number by which it is refused: 9, then 1. The key's length is tested also where there is no record.
+fn reported(key: &[u8], file: &[u8]) -> Told
+    ensures { λ r. ⌜ r ≡ reportedAs (now (key .entry)) (readDay (now (file .entry))) ⌝ }
 {
     let Checked::Day {
         headers: _,
@@ -139,60 +146,52 @@ pub fn report(key: &[u8], file: &[u8], out: &mut [u8]) -> Answer
         first: _,
     } = day::check(file)
     else {
-        return Answer {
-            number: 9,
-            length: 0,
-        };
+        return Told::Refused(9);
     };
     if key.len() != 48 {
-        return Answer {
-            number: 1,
-            length: 0,
-        };
+        return Told::Refused(1);
     }
-    let r = report_of(key, file, records);
-    let length = line::line_length(r);
-    if out.len() < length {
-        return Answer {
-            number: 6,
-            length: 0,
-        };
+    Told::Is(report_of(key, file, records))
+}
+
+// The report's line. Nothing is written before the answer is settled.
+pub fn report(key: &[u8], file: &[u8], out: &mut [u8]) -> Answer
+    ensures { λ r. ⌜ outcome r (now (out .exit)) ≡ reporting (now (key .entry)) (now (file .entry)) (now (out .entry)) ⌝ }
+{
+    match reported(key, file) {
+        Told::Refused(number) => Answer { number, length: 0 },
+        Told::Is(r) => {
+            let length = line::line_length(r);
+            if out.len() < length {
+                return Answer {
+                    number: 6,
+                    length: 0,
+                };
+            }
+            line::put_line(r, out);
+            Answer { number: 0, length }
+        }
     }
-    line::put_line(r, out);
-    Answer { number: 0, length }
 }
 
 // The report's six numbers in place of the line.
 pub fn figures(key: &[u8], file: &[u8], out: &mut [u64]) -> Answer
     ensures { λ r. ⌜ outcome r (now (out .exit)) ≡ reportingFigures (now (key .entry)) (now (file .entry)) (now (out .entry)) ⌝ }
 {
-    let Checked::Day {
-        headers: _,
-        records,
-        first: _,
-    } = day::check(file)
-    else {
-        return Answer {
-            number: 9,
-            length: 0,
-        };
-    };
-    if key.len() != 48 {
-        return Answer {
-            number: 1,
-            length: 0,
-        };
-    }
-    if out.len() < 6 {
-        return Answer {
-            number: 6,
-            length: 0,
-        };
-    }
-    let r = report_of(key, file, records);
-    line::put_figures(r, out);
-    Answer {
-        number: 0,
-        length: 6,
+    match reported(key, file) {
+        Told::Refused(number) => Answer { number, length: 0 },
+        Told::Is(r) => {
+            if out.len() < 6 {
+                return Answer {
+                    number: 6,
+                    length: 0,
+                };
+            }
+            line::put_figures(r, out);
+            Answer {
+                number: 0,
+                length: 6,
+            }
+        }
     }
 }

@@ -6,102 +6,85 @@ use Prim.Native.Nat.{ℕ}
 use borrow.Author.Needs.{needs}
 use Rattle.paper.specs.Strings.{Bytes}
 use Rattle.paper.specs.DayFile.{Day, readDay}
-use Rattle.paper.specs.Ledger.{reportOf, figuresOf, reportingFigures}
-use Rattle.day.specs.declared.Checked.the-variants as checked
-use Rattle.day.specs.Walks.{checkedAs}
-use Rattle.day_open.proofs.Opens.{checked-records}
-use Rattle.line.specs.Reports.{meaning}
-use Rattle.ledger.specs.Pauses.{pausesIn}
-use Rattle.ledger.proofs.Settled.{unread, no-key, no-room, written}
+use Rattle.paper.specs.Ledger.{figuresOf, reportingFigures}
+use Rattle.line.specs.declared.Report.{Report}
+use Rattle.ledger.specs.declared.Told.the-variants as told
+use Rattle.ledger.specs.Reports.{reportedAs}
+use Rattle.ledger.proofs.Settled.{refusal, no-room, written}
 use Rattle.ledger.proofs.figures.Statement.{statement}
 use Rattle.ledger.proofs.figures.Tie as tie
 
-abbrev start : tie.After-check → tie.Start
-start c = c .before .before .before .before
-
--- the file reads
-module _ (c : tie.After-known-told) where
-  abbrev checked-file : tie.After-check
-  checked-file = c .before .before .before
+module _ (c : tie.After-reported) where
+  abbrev known : tie.After-shared-slice-known
+  known = c .before .before .before
 
   abbrev key : Bytes
-  key = start checked-file .args .key .now
+  key = known .before .args .key .now
 
   abbrev o : Option Day
-  o = readDay (start checked-file .args .file .now)
+  o = readDay (known .before .args .file .now)
 
   abbrev out : List ℕ
-  out = start checked-file .args .out .now
+  out = known .before .args .out .now
 
-  abbrev headers : ℕ
-  headers = c .before .records .given .0 .0
+-- there is a report
+module _ (c : tie.After-known-told2) where
+  abbrev told-it : tie.After-reported
+  told-it = c .before .before .before
 
-  abbrev records : ℕ
-  records = c .before .records .given .0 .1 .0
+  abbrev r : Report
+  r = c .before .r .given .0 .0
 
-  abbrev first : ℕ
-  first = c .before .records .given .0 .1 .1 .0
+  is : told.Is r ≡ reportedAs (key told-it) (o told-it)
+  is = sym (c .before .r .given .1) ∙ told-it .reported .ensures
 
-  reads : checked.Day headers records first ≡ checkedAs o
-  reads = sym (c .before .records .given .1) ∙ checked-file .check .ensures
+reported-requires : tie.Need-reported-requires
+reported-requires c κs = search needs
 
-check-requires : tie.Need-check-requires
-check-requires c κs = search needs
+enum-known-number : tie.Need-enum-known-number
+enum-known-number c = search needs
 
-enum-known-records : tie.Need-enum-known-records
-enum-known-records c = search needs
-
-enum-told : tie.Need-enum-told
-enum-told c = search needs
+enum-known-r : tie.Need-enum-known-r
+enum-known-r c = search needs
 
 returns : tie.Need-returns
-unfolding reportingFigures
-returns c =
-    let h = c .before .before in
-    let a = start h .args in
-    unread figuresOf (a .key .now) (a .out .now) (readDay (a .file .now)) (sym (c .enum-told .given .1) ∙ h .check .ensures)
-
-returns-2 : tie.Need-returns-2
-unfolding reportingFigures
-returns-2 c = let t = c .before in no-key figuresOf (key t) (out t) (o t) (headers t) (records t) (first t) (reads t) (c .if1 .taken)
-
-returns-3 : tie.Need-returns-3
 unfolding reportingFigures figuresOf
-returns-3 c =
-    let e = c .before in
-    let t = e .before in
-    no-room figuresOf (key t) (out t) (o t) (headers t) (records t) (first t) (reads t) (e .if1 .left) (reportOf (pausesIn (key t) (o t))) refl (c .if2 .taken)
-
-report-of-requires : tie.Need-report-of-requires
-report-of-requires c κs = let t = c .before .before in checked-records (o t) (headers t) (records t) (first t) (reads t)
+returns c =
+    let t = c .before in
+    let u = told-it t in
+    no-room figuresOf (key u) (out u) (o u) (r t) (is t) (c .if1 .taken)
 
 put-figures-requires : tie.Need-put-figures-requires
 put-figures-requires c κs = search needs
 
+returns-2 : tie.Need-returns-2
+unfolding reportingFigures figuresOf
+returns-2 c =
+    let n = c .before in
+    let u = n .before .before in
+    refusal figuresOf (key u) (out u) (o u) (n .number .given .0 .0) (sym (n .number .given .1) ∙ u .reported .ensures)
+
 same-length : tie.Need-same-length
 same-length c = search needs
 
-returns-4 : tie.Need-returns-4
+returns-3 : tie.Need-returns-3
 unfolding reportingFigures figuresOf
-returns-4 c =
+returns-3 c =
     let p = c .before .before in
-    let r = p .before .before in
-    let e = r .before in
-    let t = e .before .before in
-    written figuresOf (key t) (out t) (o t) (headers t) (records t) (first t) (reads t) (e .before .if1 .left) (meaning (r .report-of .result)) (r .report-of .ensures)
-    6 (p .put-figures .last .1 .0) refl (e .if2 .left) (p .put-figures .ensures)
+    let e = p .before .before in
+    let t = e .before in
+    let u = told-it t in
+    written figuresOf (key u) (out u) (o u) (r t) (is t) 6 (p .put-figures .last .1 .0) refl (e .if1 .left) (p .put-figures .ensures)
 
 pub figures-spec : {M : Type 1} → statement M
 figures-spec =
     tie.close
     (tie.spec
-    check-requires
-    enum-known-records
-    enum-told
+    reported-requires
+    enum-known-number
+    enum-known-r
     returns
-    returns-2
-    returns-3
-    report-of-requires
     put-figures-requires
+    returns-2
     same-length
-    returns-4)
+    returns-3)

@@ -8,107 +8,90 @@ use borrow.Author.Needs.{needs}
 use Rattle.paper.specs.Strings.{Bytes}
 use Rattle.paper.specs.DayFile.{Day, readDay}
 use Rattle.paper.specs.Ledger.{lineOf, reporting}
-use Rattle.day.specs.declared.Checked.the-variants as checked
-use Rattle.day.specs.Walks.{checkedAs}
-use Rattle.day_open.proofs.Opens.{checked-records}
-use Rattle.line.specs.Reports.{meaning}
-use Rattle.ledger.proofs.Settled.{unread, no-key, no-room, written}
+use Rattle.line.specs.declared.Report.{Report}
+use Rattle.ledger.specs.declared.Told.the-variants as told
+use Rattle.ledger.specs.Reports.{reportedAs}
+use Rattle.ledger.proofs.Settled.{refusal, no-room, written}
 use Rattle.ledger.proofs.report.Statement.{statement}
 use Rattle.ledger.proofs.report.Tie as tie
 
-abbrev start : tie.After-check → tie.Start
-start c = c .before .before .before .before
-
--- the file reads
-module _ (c : tie.After-known-told) where
-  abbrev checked-file : tie.After-check
-  checked-file = c .before .before .before
+module _ (c : tie.After-reported) where
+  abbrev known : tie.After-shared-slice-known
+  known = c .before .before .before
 
   abbrev key : Bytes
-  key = start checked-file .args .key .now
+  key = known .before .args .key .now
 
   abbrev o : Option Day
-  o = readDay (start checked-file .args .file .now)
+  o = readDay (known .before .args .file .now)
 
   abbrev out : List ℕ
-  out = start checked-file .args .out .now
+  out = known .before .args .out .now
 
-  abbrev headers : ℕ
-  headers = c .before .records .given .0 .0
+-- there is a report
+module _ (c : tie.After-known-told2) where
+  abbrev told-it : tie.After-reported
+  told-it = c .before .before .before
 
-  abbrev records : ℕ
-  records = c .before .records .given .0 .1 .0
+  abbrev r : Report
+  r = c .before .r .given .0 .0
 
-  abbrev first : ℕ
-  first = c .before .records .given .0 .1 .1 .0
+  is : told.Is r ≡ reportedAs (key told-it) (o told-it)
+  is = sym (c .before .r .given .1) ∙ told-it .reported .ensures
 
-  reads : checked.Day headers records first ≡ checkedAs o
-  reads = sym (c .before .records .given .1) ∙ checked-file .check .ensures
+reported-requires : tie.Need-reported-requires
+reported-requires c κs = search needs
 
-check-requires : tie.Need-check-requires
-check-requires c κs = search needs
+enum-known-number : tie.Need-enum-known-number
+enum-known-number c = search needs
 
-enum-known-records : tie.Need-enum-known-records
-enum-known-records c = search needs
-
-enum-told : tie.Need-enum-told
-enum-told c = search needs
-
-returns : tie.Need-returns
-unfolding reporting
-returns c =
-    let h = c .before .before in
-    let a = start h .args in
-    unread lineOf (a .key .now) (a .out .now) (readDay (a .file .now)) (sym (c .enum-told .given .1) ∙ h .check .ensures)
-
-returns-2 : tie.Need-returns-2
-unfolding reporting
-returns-2 c = let t = c .before in no-key lineOf (key t) (out t) (o t) (headers t) (records t) (first t) (reads t) (c .if1 .taken)
-
-report-of-requires : tie.Need-report-of-requires
-report-of-requires c κs = let t = c .before in checked-records (o t) (headers t) (records t) (first t) (reads t)
+enum-known-r : tie.Need-enum-known-r
+enum-known-r c = search needs
 
 line-length-requires : tie.Need-line-length-requires
 line-length-requires c κs = search needs
 
-returns-3 : tie.Need-returns-3
+returns : tie.Need-returns
 unfolding reporting
-returns-3 c =
+returns c =
     let n = c .before in
-    let r = n .before in
-    let t = r .before .before in
-    no-room lineOf (key t) (out t) (o t) (headers t) (records t) (first t) (reads t) (r .before .if1 .left) (meaning (r .report-of .result)) (r .report-of .ensures)
-    (omega (arith, n .line-length .ensures, c .if2 .taken))
+    let t = n .before in
+    let u = told-it t in
+    no-room lineOf (key u) (out u) (o u) (r t) (is t) (omega (arith, n .line-length .ensures, c .if1 .taken))
 
 put-line-requires : tie.Need-put-line-requires
-put-line-requires c κs = let e = c .before in omega (arith, e .before .line-length .ensures, e .if2 .left)
+put-line-requires c κs = let e = c .before in omega (arith, e .before .line-length .ensures, e .if1 .left)
+
+returns-2 : tie.Need-returns-2
+unfolding reporting
+returns-2 c =
+    let n = c .before in
+    let u = n .before .before in
+    refusal lineOf (key u) (out u) (o u) (n .number .given .0 .0) (sym (n .number .given .1) ∙ u .reported .ensures)
 
 same-length : tie.Need-same-length
 same-length c = search needs
 
-returns-4 : tie.Need-returns-4
+returns-3 : tie.Need-returns-3
 unfolding reporting
-returns-4 c =
+returns-3 c =
     let p = c .before .before in
     let e = p .before .before in
     let n = e .before in
-    let r = n .before in
-    let t = r .before .before in
-    written lineOf (key t) (out t) (o t) (headers t) (records t) (first t) (reads t) (r .before .if1 .left) (meaning (r .report-of .result)) (r .report-of .ensures)
-    (n .line-length .result) (p .put-line .last .1 .0) (n .line-length .ensures) (omega (arith, n .line-length .ensures, e .if2 .left)) (p .put-line .ensures)
+    let t = n .before in
+    let u = told-it t in
+    written lineOf (key u) (out u) (o u) (r t) (is t) (n .line-length .result) (p .put-line .last .1 .0) (n .line-length .ensures) (omega (arith, n .line-length .ensures, e .if1 .left)) (p .put-line .ensures)
 
 pub report-spec : {M : Type 1} → statement M
 report-spec =
     tie.close
     (tie.spec
-    check-requires
-    enum-known-records
-    enum-told
-    returns
-    returns-2
-    report-of-requires
+    reported-requires
+    enum-known-number
+    enum-known-r
     line-length-requires
-    returns-3
+    returns
     put-line-requires
+    returns-2
     same-length
-    returns-4)
+    returns-3)
