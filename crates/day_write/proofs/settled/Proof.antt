@@ -8,8 +8,18 @@ use Rattle.day_write.proofs.Settles.{Handed, unheaded, unrecorded, hand
 use Rattle.day_write.proofs.settled.Statement.{statement}
 use Rattle.day_write.proofs.settled.Tie as tie
 
+-- back over the six lists that are lent
+abbrev fifth : tie.After-headers-fit → tie.After-shared-slice-known5
+fifth c = c .before .before
+
+abbrev third : tie.After-shared-slice-known5 → tie.After-shared-slice-known3
+third c = c .before .before
+
+abbrev first : tie.After-shared-slice-known3 → tie.After-shared-slice-known
+first c = c .before .before
+
 abbrev start : tie.After-headers-fit → tie.Start
-start c = c .before .before .before .before .before .before .before
+start c = first (third (fifth c)) .before
 
 -- the headers read
 headed : (c : tie.Then1) → present (headersOf (start (c .before) .args .lengths .now) (start (c .before) .args .headers .now)) ≡ true
@@ -17,13 +27,16 @@ headed c = sym (c .before .headers-fit .ensures) ∙ c .if1 .taken
 
 -- and the records are within the layout
 module _ (c : tie.After-size) where
+  abbrev recorded : tie.After-records-fit
+  recorded = c .before .before
+
   abbrev begun : tie.Start
-  begun = start (c .before .before .before .before)
+  begun = start (recorded .before .before)
 
   abbrev all : Handed (begun .args .lengths .now) (begun .args .headers .now) (begun .args .numbers .now) (begun .args .stretches .now) (begun .args .sizes .now) (begun .args .sealed .now)
   all =
       handed (begun .args .lengths .now) (begun .args .headers .now) (begun .args .numbers .now) (begun .args .stretches .now) (begun .args .sizes .now) (begun .args .sealed .now)
-      (headed (c .before .before .before)) (sym (c .before .before .records-fit .ensures) ∙ c .before .if2 .taken)
+      (headed (recorded .before)) (sym (recorded .records-fit .ensures) ∙ c .before .if2 .taken)
 
   sized : Sized (c .size .result) (length (writeDay (all .day)))
   sized = subst (Sized (c .size .result)) (sym (all .size)) (c .size .ensures)

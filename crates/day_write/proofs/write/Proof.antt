@@ -10,8 +10,18 @@ use borrow.Author.Needs.{needs}
 use Rattle.day_write.proofs.write.Statement.{statement}
 use Rattle.day_write.proofs.write.Tie as tie
 
+-- back over the output and the six lists that are lent
+abbrev sixth : tie.After-settled → tie.After-shared-slice-known6
+sixth c = c .before .before
+
+abbrev fourth : tie.After-shared-slice-known6 → tie.After-shared-slice-known4
+fourth c = c .before .before
+
+abbrev second : tie.After-shared-slice-known4 → tie.After-shared-slice-known2
+second c = c .before .before
+
 abbrev start : tie.After-settled → tie.Start
-start c = c .before .before .before .before .before .before .before .before
+start c = second (fourth (sixth c)) .before .before
 
 -- 0 is settled
 module _ (c : tie.Else1) where
@@ -27,24 +37,43 @@ module _ (c : tie.Else1) where
   recs : length (recordsWritten (recordsOf (length (s .args .lengths .now)) (s .args .numbers .now) (s .args .stretches .now) (s .args .sizes .now) (s .args .sealed .now))) ≡ 7 * length (s .args .sizes .now) + length (s .args .sealed .now)
   recs = records-long-here (s .args .lengths .now) (s .args .headers .now) (s .args .numbers .now) (s .args .stretches .now) (s .args .sizes .now) (s .args .sealed .now) (fits .all)
 
+-- once each part is put the output is whole again
+abbrev whole-one : tie.After-slice-known2 → tie.After-put-four
+whole-one c = c .before .before
+
+abbrev whole-two : tie.After-slice-known3 → tie.After-put-headers
+whole-two c = c .before .before
+
+abbrev whole-three : tie.After-slice-known4 → tie.After-put-four2
+whole-three c = c .before .before
+
+abbrev whole-four : tie.After-slice-known5 → tie.After-put-records
+whole-four c = c .before .before
+
+abbrev whole-five : tie.After-slice-known6 → tie.After-put-four3
+whole-five c = c .before .before
+
+abbrev whole-six : tie.After-slice-known7 → tie.After-put-places
+whole-six c = c .before .before
+
 -- the parts, each after the one before
 abbrev one : tie.After-put-four → tie.Else1
 one c = c .before .before
 
 abbrev two : tie.After-put-headers → tie.After-put-four
-two c = c .before .before .before .before
+two c = whole-one (c .before .before)
 
 abbrev three : tie.After-put-four2 → tie.After-put-headers
-three c = c .before .before .before .before
+three c = whole-two (c .before .before)
 
 abbrev four : tie.After-put-records → tie.After-put-four2
-four c = c .before .before .before .before
+four c = whole-three (c .before .before)
 
 abbrev five : tie.After-put-four3 → tie.After-put-records
-five c = c .before .before .before .before
+five c = whole-four (c .before .before)
 
 abbrev six : tie.After-put-places → tie.After-put-four3
-six c = c .before .before .before .before
+six c = whole-five (c .before .before)
 
 -- where the headers and the records end, and the output's length so far
 module _ (c : tie.After-put-headers) where
@@ -77,38 +106,38 @@ put-four-requires c κs = omega (arith, fits (c .before) .has-room)
 
 put-headers-requires : tie.Need-put-headers-requires
 put-headers-requires c κs =
-    let f = c .before .before .before in
+    let f = whole-one (c .before) in
     (fits (one f) .headed, omega (arith, fits (one f) .has-room, f .put-four .kept .0))
 
 put-four-requires-2 : tie.Need-put-four-requires-2
 put-four-requires-2 c κs =
-    let h = c .before .before .before in
+    let h = whole-two (c .before) in
     omega (arith, fits (one (two h)) .has-room, after-heads h .0, after-heads h .1)
 
 add-first : tie.Need-add-first
 add-first c =
-    let h = three (c .before .before) in
+    let h = three (whole-three c) in
     omega (arith, fits (one (two h)) .short, after-heads h .0)
 
 put-records-requires : tie.Need-put-records-requires
 put-records-requires c κs =
-    let d = c .before .before .before in
+    let d = whole-three (c .before) in
     let h = three d in
     (fits (one (two h)) .recorded, omega (arith, fits (one (two h)) .has-room, after-heads h .0, after-heads h .1, d .put-four2 .kept .0))
 
 put-four-requires-3 : tie.Need-put-four-requires-3
 put-four-requires-3 c κs =
-    let r = c .before .before .before in
+    let r = whole-four (c .before) in
     omega (arith, fits (first r) .has-room, after-records r .0, after-records r .1)
 
 add-put-places : tie.Need-add-put-places
 add-put-places c =
-    let r = five (c .before .before .before) in
+    let r = five (whole-five (c .before)) in
     omega (arith, fits (first r) .short, after-records r .0)
 
 put-places-requires : tie.Need-put-places-requires
 put-places-requires c κs =
-    let d = c .before .before .before in
+    let d = whole-five (c .before) in
     let r = five d in
     let f = first r in (
       omega (arith, fits f .short, after-heads (headed r) .0, total-is (s f .args .lengths .now) (s f .args .headers .now) (s f .args .numbers .now) (s f .args .stretches .now) (s f .args .sizes .now) (s f .args .sealed .now) (fits f .all)),
@@ -123,7 +152,7 @@ same-length c = search needs
 
 returns-2 : tie.Need-returns-2
 returns-2 c =
-    let p = c .before .before .before in
+    let p = whole-six (c .before) in
     let d = six p in
     let r = five d in
     let e = four r in
