@@ -1,12 +1,13 @@
 //! How long a call takes: the proved library beside the second program, and
-//! beside software AES-128-CTR of BearSSL on as many bytes of text; and reading a
-//! day file beside a copy of it. Prints tables in Markdown. It needs Debian's
-//! libbearssl-dev:
+//! beside software AES-128-CTR of BearSSL on as many bytes of text; reading a day
+//! file beside a copy of it; and reporting on one. Prints tables in Markdown. It
+//! needs Debian's libbearssl-dev:
 //!
 //!     cargo bench --features bearssl
 
 mod bearssl;
 mod days;
+mod reports;
 mod timing;
 
 use std::hint::black_box;
@@ -39,6 +40,8 @@ fn main() {
     }
     println!();
     days::print();
+    println!();
+    reports::print();
 }
 
 /// The table's two lines for texts of this length.

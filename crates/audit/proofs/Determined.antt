@@ -66,8 +66,13 @@ use Rattle.record.proofs.«open».Reads as record-open
 use Rattle.record.proofs.open_part.Reads as record-open-part
 use Rattle.day.proofs.entry_at.Reads as day-entry-at
 use Rattle.day.proofs.check.Reads as day-check
+use Rattle.day.proofs.entry_of.Reads as day-entry-of
+use Rattle.day.proofs.place_from.Reads as day-place-from
+use Rattle.day.proofs.find_from.Reads as day-find-from
 use Rattle.day.proofs.find.Reads as day-find
 use Rattle.day.proofs.list.Reads as day-list
+use Rattle.day_marks.proofs.marks.Reads as day-marks-marks
+use Rattle.day_marks.proofs.find.Reads as day-marks-find
 use Rattle.day_open.proofs.«open».Reads as day-open
 use Rattle.day_write.proofs.put_record.Reads as day-put-record
 use Rattle.day_write.proofs.write.Reads as day-write
@@ -285,7 +290,7 @@ record-open-determined κs a z w e f p q = one-outcome-at z w (now (e .1 .1 .1 .
 pub record-open-part-determined : (κs : _) (a : _) (z w : _) (e f : _) → record-open-part.Learnt κs a z e → record-open-part.Learnt κs a w f → (ptr z ≡ ptr w) × (now z ≡ now w)
 record-open-part-determined κs a z w e f p q = (one (p .0) (q .0), one (p .1) (q .1))
 
--- ---- The day file: `day`, `day_open`, `day_write`, `day_place`, `day_append`, `day_clear`
+-- ---- The day file: `day`, `day_marks`, `day_open`, `day_write`, `day_place`, `day_append`, `day_clear`
 
 pub day-entry-at-determined : (κs : _) (a : _) (z w : _) (e f : _) → day-entry-at.Learnt κs a z e → day-entry-at.Learnt κs a w f → z ≡ w
 day-entry-at-determined κs a z w e f p q = one (p .0) (q .0)
@@ -293,11 +298,26 @@ day-entry-at-determined κs a z w e f p q = one (p .0) (q .0)
 pub day-check-determined : (κs : _) (a : _) (z w : _) (e f : _) → day-check.Learnt κs a z e → day-check.Learnt κs a w f → z ≡ w
 day-check-determined κs a z w e f p q = one p q
 
+pub day-entry-of-determined : (κs : _) (a : _) (z w : _) (e f : _) → day-entry-of.Learnt κs a z e → day-entry-of.Learnt κs a w f → z ≡ w
+day-entry-of-determined κs a z w e f p q = one (p .0) (q .0)
+
+pub day-place-from-determined : (κs : _) (a : _) (z w : _) (e f : _) → day-place-from.Learnt κs a z e → day-place-from.Learnt κs a w f → z ≡ w
+day-place-from-determined κs a z w e f p q = one p q
+
+pub day-find-from-determined : (κs : _) (a : _) (z w : _) (e f : _) → day-find-from.Learnt κs a z e → day-find-from.Learnt κs a w f → z ≡ w
+day-find-from-determined κs a z w e f p q = one (p .0) (q .0)
+
 pub day-find-determined : (κs : _) (a : _) (z w : _) (e f : _) → day-find.Learnt κs a z e → day-find.Learnt κs a w f → z ≡ w
 day-find-determined κs a z w e f p q = one (p .0) (q .0)
 
 pub day-list-determined : (κs : _) (a : _) (z w : _) (e f : _) → day-list.Learnt κs a z e → day-list.Learnt κs a w f → (z ≡ w) × (now (e .1 .0) ≡ now (f .1 .0))
 day-list-determined κs a z w e f p q = one-listing z w (now (e .1 .0)) (now (f .1 .0)) _ p q
+
+pub day-marks-marks-determined : (κs : _) (a : _) (z w : _) (e f : _) → day-marks-marks.Learnt κs a z e → day-marks-marks.Learnt κs a w f → z ≡ w
+day-marks-marks-determined κs a z w e f p q = one p q
+
+pub day-marks-find-determined : (κs : _) (a : _) (z w : _) (e f : _) → day-marks-find.Learnt κs a z e → day-marks-find.Learnt κs a w f → z ≡ w
+day-marks-find-determined κs a z w e f p q = one (p .0) (q .0)
 
 pub day-open-determined : (κs : _) (a : _) (z w : _) (e f : _) → day-open.Learnt κs a z e → day-open.Learnt κs a w f → (z ≡ w) × (now (e .1 .1 .1 .0) ≡ now (f .1 .1 .1 .0))
 day-open-determined κs a z w e f p q = one-outcome z w (now (e .1 .1 .1 .0)) (now (f .1 .1 .1 .0)) _ p q

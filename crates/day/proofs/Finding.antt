@@ -19,7 +19,7 @@ use Rattle.laws.proofs.DayPlaces.{elem-fits, record-there, header-there, entry-
 use Rattle.day.specs.declared.Entry.{Entry}
 use Rattle.day.specs.declared.Found.{Found}
 use Rattle.day.specs.Walks.{entryAt}
-use Rattle.day.specs.Finds.{headersIn, recordsIn, lengthPlace, foundAt, foundIn, FoundWithin}
+use Rattle.day.specs.Finds.{headersIn, recordsIn, entryBy, entryIn, lengthPlace, foundAt, foundIn, FoundWithin}
 
 -- where there is a header or a record, the file reads
 with-header : (o : Option Day) (n : ℕ) → n < headersIn o → (day : Day) × (o ≡ some day)
@@ -176,17 +176,25 @@ stands f low records k e p =
 abbrev foundBy : Entry → ℕ → ℕ → Found
 foundBy e place size = record { «header_start» = place + 2; «header_end» = place + 2 + size; stretch = e .stretch; start = e .start; end = e .end }
 
-module _ (f : Bytes) (low : Below 256 f) (records k : ℕ) (s : Stands f records k)
-    (place : ℕ) (placed : place ≡ value (take 4 (drop (length f - 4 * records + 4 * k) f))) where
-  abbrev here : place ≡ placeOf (s .day) k
-  here = placed ∙ s .place
+module _ (f : Bytes) (low : Below 256 f) (records k : ℕ) (s : Stands f records k) where
+  entry-in : entryIn (readDay f) k ≡ record { header = s .own .header; stretch = s .own .stretch; start = placeOf (s .day) k + 7; end = placeOf (s .day) k + 7 + length (s .own .sealed) }
+  unfolding entryIn entryBy
+  entry-in = ap (λ (o : Option Day). entryIn o k) (s .reads) ∙ ap (entryBy (s .day) k) (s .elem)
 
-  pub entry-room : place + 7 ≤ length f
-  entry-room = omega (arith, here, s .room)
+  -- by the index
+  module _ (place : ℕ) (placed : place ≡ value (take 4 (drop (length f - 4 * records + 4 * k) f))) where
+    abbrev here : place ≡ placeOf (s .day) k
+    here = placed ∙ s .place
 
-  module _ (e : Entry) (read : e ≡ entryAt f place) where
+    pub entry-room : place + 7 ≤ length f
+    entry-room = omega (arith, here, s .room)
+
+    pub entry-read : (e : Entry) → e ≡ entryAt f place → e ≡ entryIn (readDay f) k
+    entry-read e read = read ∙ ap (entryAt f) here ∙ s .fields ∙ sym entry-in
+
+  module _ (e : Entry) (read : e ≡ entryIn (readDay f) k) where
     entry-is : e ≡ record { header = s .own .header; stretch = s .own .stretch; start = placeOf (s .day) k + 7; end = placeOf (s .day) k + 7 + length (s .own .sealed) }
-    entry-is = read ∙ ap (entryAt f) here ∙ s .fields
+    entry-is = read ∙ entry-in
 
     header-is : e .header ≡ s .own .header
     header-is = ap (λ (x : Entry). x .header) entry-is

@@ -5,6 +5,7 @@ use lib.ListN.{length, take, getElem?}
 use Rattle.paper.specs.Strings.{Bytes}
 use Rattle.paper.specs.Document01.{writeStrings}
 use Rattle.paper.specs.DayFile.{Record, Day, placeOf, headerPlace, headerOf}
+use Rattle.day.specs.declared.Entry.{Entry}
 use Rattle.day.specs.declared.Found.{Found}
 
 -- how many headers and records there are: none where the file does not read
@@ -20,6 +21,16 @@ recordsIn (some day) = length (day .records)
 unfoldable pub lengthPlace : Option Day → ℕ → ℕ
 lengthPlace none n = 4
 lengthPlace (some day) n = 4 + length (writeStrings (take n (day .headers)))
+
+-- the fields of record k, whose first byte stands at its place
+unfoldable pub entryBy : Day → ℕ → Option Record → Entry
+entryBy day k none = record { header = 0; stretch = 0; start = 0; end = 0 }
+entryBy day k (some r) = record { header = r .header; stretch = r .stretch; start = placeOf day k + 7; end = placeOf day k + 7 + length (r .sealed) }
+
+-- all are 0 where there is no such record
+unfoldable pub entryIn : Option Day → ℕ → Entry
+entryIn none k = record { header = 0; stretch = 0; start = 0; end = 0 }
+entryIn (some day) k = entryBy day k (getElem? (day .records) k)
 
 -- record k: its header at its place, its stretch, and its sealed bytes after the seven bytes in front of them
 unfoldable pub foundAt : Day → ℕ → Option Record → Found

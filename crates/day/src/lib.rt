@@ -8,7 +8,7 @@ ghost use Prim.Native.Nat.{_+_, _*_, _<_, _≤_};
 ghost use lib.ListN.{length, take, drop};
 ghost use Rattle.paper.specs.DayFile.{value, readRecords, readDay, listing};
 ghost use Rattle.day.specs.Walks.{entryAt, HeaderStep, RecordStep, HeadersWalk, rightIndex, checkedAs};
-ghost use Rattle.day.specs.Finds.{headersIn, recordsIn, lengthPlace, foundIn, FoundWithin};
+ghost use Rattle.day.specs.Finds.{headersIn, recordsIn, entryIn, lengthPlace, foundIn, FoundWithin};
 ghost use Rattle.day.specs.Lists.{headersListed, recordPlace, recordsListed, listingAs};
 ghost use Rattle.laws.specs.Placing.{placed};
 
@@ -191,32 +191,42 @@ pub fn check(file: &[u8]) -> Checked
     Checked::Bad
 }
 
-// Where a header's two length bytes stand, in a file that reads: after the headers before it, which are passed one by one.
-fn length_place(file: &[u8], number: usize) -> usize
-    requires { ⌜ number < headersIn (readDay (now file)) ⌝ }
-    ensures { λ r. ⌜ r ≡ lengthPlace (readDay (now (file .entry))) number ⌝ }
+// The fields of record k of a file that reads and has so many records, by the index.
+pub fn entry_of(file: &[u8], records: usize, k: usize) -> Entry
+    requires { ⌜ (records ≡ recordsIn (readDay (now file))) × (k < records) ⌝ }
+    ensures { λ r. ⌜ (r ≡ entryIn (readDay (now (file .entry))) k) × (r .header < headersIn (readDay (now (file .entry)))) ⌝ }
 {
-    let mut at: usize = 4;
-    let mut i: usize = 0;
-    while i < number {
-        at = at + 2 + numbers::two(file, at);
-        i += 1;
-    }
-    at
+    let place = numbers::four(file, file.len() - 4 * records + 4 * k);
+    entry_at(file, place)
 }
 
-// Record k of a file that reads and has so many records: its place by the index, and then a walk over the headers before its own.
-pub fn find(file: &[u8], records: usize, k: usize) -> Found
-    requires { ⌜ (records ≡ recordsIn (readDay (now file))) × (k < records) ⌝ }
+// Where a header's two length bytes stand, in a file that reads, from the place of those of header `from` on: the headers between the two are
+// passed one by one. Past the last header this is the place after all of them.
+pub fn place_from(file: &[u8], from: usize, at: usize, number: usize) -> usize
+    requires { ⌜ (at ≡ lengthPlace (readDay (now file)) from) × (from ≤ number) × (number ≤ headersIn (readDay (now file))) ⌝ }
+    ensures { λ r. ⌜ r ≡ lengthPlace (readDay (now (file .entry))) number ⌝ }
+{
+    let mut place = at;
+    let mut i = from;
+    while i < number {
+        place = place + 2 + numbers::two(file, place);
+        i += 1;
+    }
+    place
+}
+
+// Record k of a file that reads and has so many records: its place by the index, and then a walk to its own header from the place of header
+// `from`, which is not after it.
+pub fn find_from(file: &[u8], records: usize, k: usize, from: usize, at: usize) -> Found
+    requires { ⌜ (records ≡ recordsIn (readDay (now file))) × (k < records) × (at ≡ lengthPlace (readDay (now file)) from) × (from ≤ entryIn (readDay (now file)) k .header) ⌝ }
     ensures { λ r. ⌜ r ≡ foundIn (readDay (now (file .entry))) k ⌝ }
     ensures within { λ r. ⌜ FoundWithin r (now (file .entry)) ⌝ }
 {
-    let place = numbers::four(file, file.len() - 4 * records + 4 * k);
-    let e = entry_at(file, place);
+    let e = entry_of(file, records, k);
     let header = e.header;
-    let at = length_place(file, header);
-    let header_start = at + 2;
-    let header_end = header_start + numbers::two(file, at);
+    let place = place_from(file, from, at, header);
+    let header_start = place + 2;
+    let header_end = header_start + numbers::two(file, place);
     Found {
         header_start,
         header_end,
@@ -224,6 +234,15 @@ pub fn find(file: &[u8], records: usize, k: usize) -> Found
         start: e.start,
         end: e.end,
     }
+}
+
+// Record k of a file that reads and has so many records, by a walk over all headers before its own.
+pub fn find(file: &[u8], records: usize, k: usize) -> Found
+    requires { ⌜ (records ≡ recordsIn (readDay (now file))) × (k < records) ⌝ }
+    ensures { λ r. ⌜ r ≡ foundIn (readDay (now (file .entry))) k ⌝ }
+    ensures within { λ r. ⌜ FoundWithin r (now (file .entry)) ⌝ }
+{
+    find_from(file, records, k, 0, 4)
 }
 
 // Two numbers put at a place of a list, and every other entry kept.

@@ -1,17 +1,18 @@
--- THE LEDGER. Of a file that reads: at most 5,956 records, so that the sum of its pauses is below 2^64 and never wraps; every record is read or
--- refused; the line has at most 71 bytes.
+-- THE LEDGER. Of a file that reads: at most 13,104 headers, and at most 5,956 records, so that the sum of its pauses is below 2^64 and never
+-- wraps; every record is read or refused; the line has at most 71 bytes.
 use mathlib.Core.Bool.{Bool, true, false}
 use mathlib.Core.List.{List, [], _∷_, map}
 use mathlib.Core.Option.{Option, none, some}
-use mathlib.Core.Path.{_≡_, refl, ap, subst, _∙_}
+use mathlib.Core.Path.{_≡_, refl, ap, subst}
 use Prim.Native.Nat.{ℕ, suc, _+_, _*_, _^_, _≤_, _<_, max}
 use native.Mathlib.Nat.{max-le, mul-le-mul-right}
 use native.Mathlib.Omega.{arith}
-use lib.Dec.{eqb}
+use borrow.Author.Tests.{leb-true, leb-false}
+use lib.Dec.{eqb, leb}
 use lib.ListN.{length, getD, take, drop, replicate, length-append, length-map}
 use Rattle.paper.specs.Strings.{Bytes, Below, if_then_else_, same}
 use Rattle.paper.specs.Document01.{OutcomeAt, readHeader, writeStrings, writeHeader, opening}
-use Rattle.paper.specs.DayFile.{Record, Day, headerOf, headerPlace, headerFits, present, recordFits, readDay}
+use Rattle.paper.specs.DayFile.{Record, Day, headerOf, headerPlace, headerFits, present, readDay}
 use Rattle.paper.specs.Pause.{Pause, noPause, comma, point, markOf, headerMark, readPause, pauseRead, pauseUnder, pauseWith, pausing}
 use Rattle.paper.specs.Ledger.{openedPause, pauseOf, pausesOf, readCount, refusedCount, sumOf, longestOf, meanOver, meanUnder, decimal, reportOf, lineOf}
 use Rattle.laws.proofs.Digits.{below-take, below-drop}
@@ -137,36 +138,43 @@ header-least h low fits = go (readHeader h) refl fits
     go none e p = let z : _≡_ {A = ℕ} 0 1 = cc in absurd (omega arith)
     go (some ss) e p = omega (arith, ap length (headers.read-write h ss low e), written-long ss, headers-few ss, headers.read-readable h ss low e .least)
 
--- where there is a record there is a header, with its two bytes of length
-headers-least : (file : Bytes) (day : Day) → Below 256 file → readDay file ≡ some day → 1 ≤ length (day .records) → 5 ≤ length (writeStrings (day .headers))
-headers-least file day low reads some-record =
-    let w = read-write file day low reads in
-    go (day .headers) (day .records) refl refl (w .within .headers-fit) (w .within .records-fit)
-  where
-    named : (r : Record) → recordFits 0 r ≡ true → ⊥
-    named r fits = omega (arith, record-fits 0 r fits .1)
+-- so a header takes at least five, with its two bytes of length
+headers-least : (hs : List Bytes) → HeadersFit hs → ((n : ℕ) → n < length hs → Below 256 (getD hs n [])) → 5 * length hs ≤ length (writeStrings hs)
+headers-least [] fit low = omega arith
+headers-least (h ∷ hs) fit low =
+    omega (arith, strings-long h hs, header-least h (low 0 (omega arith)) (fit .0), headers-least hs (fit .1) (λ n p. low (suc n) (omega arith)))
 
-    go : (hs : List Bytes) (rs : List Record) → day .headers ≡ hs → day .records ≡ rs → HeadersFit (day .headers) → RecordsFit (length (day .headers)) (day .records) → 5 ≤ length (writeStrings (day .headers))
-    go hs [] e f hf rf = absurd (omega (arith, ap length f))
-    go [] (r ∷ rs) e f hf rf = absurd (named r (subst (λ (l : List Record). RecordsFit 0 l) f (subst (λ (l : List Bytes). RecordsFit (length l) (day .records)) e rf) .0))
-    go (h ∷ hs) (r ∷ rs) e f hf rf =
-        let stands = header-stands file day low reads 0 (omega (arith, ap length e)) in
-        let first : getD (day .headers) 0 [] ≡ h = ap (λ (l : List Bytes). getD l 0 []) e in
-        let low-h : Below 256 h = subst (Below 256) (stands ∙ first) (below-take 256 (length (getD (day .headers) 0 [])) (drop (headerPlace (day .headers) 0) file) (below-drop 256 (headerPlace (day .headers) 0) file low)) in
-        omega (arith, ap (λ (l : List Bytes). length (writeStrings l)) e, strings-long h hs, header-least h low-h (subst HeadersFit e hf .0))
+-- where there is a record there is a header
+some-header : (headers : ℕ) (rs : List Record) → RecordsFit headers rs → 1 ≤ length rs → 1 ≤ headers
+some-header headers [] fit p = absurd (omega arith)
+some-header headers (r ∷ rs) fit p = omega (arith, record-fits headers r (fit .0) .1)
+
+abbrev pub mostHeaders : ℕ
+mostHeaders = 13104
 
 abbrev pub mostRecords : ℕ
 mostRecords = 5956
 
--- twelve bytes of counts, at least five of headers, and eleven for each record
-pub few-records : (file : Bytes) (day : Day) → Below 256 file → readDay file ≡ some day → length (day .records) ≤ mostRecords
-few-records file day low reads = go (day .records) refl
-  where
-    go : (rs : List Record) → day .records ≡ rs → length (day .records) ≤ mostRecords
-    go [] e = omega (arith, ap length e)
-    go (r ∷ rs) e =
-        let w = read-write file day low reads in
-        omega (arith, ap length e, headers-least file day low reads (omega (arith, ap length e)), day-long day, first-place (day .headers), records-few (day .records), w .within .short)
+module _ (file : Bytes) (day : Day) (low : Below 256 file) (reads : readDay file ≡ some day) where
+  -- twelve bytes of counts, five for each header and eleven for each record
+  counted : 12 + 5 * length (day .headers) + 11 * length (day .records) ≤ 65536
+  counted =
+      let w = read-write file day low reads in
+      let header-low : (n : ℕ) → n < length (day .headers) → Below 256 (getD (day .headers) n []) =
+      λ n p.
+      subst (Below 256) (header-stands file day low reads n p)
+      (below-take 256 (length (getD (day .headers) n [])) (drop (headerPlace (day .headers) n) file) (below-drop 256 (headerPlace (day .headers) n) file low)) in
+      omega (arith, headers-least (day .headers) (w .within .headers-fit) header-low, day-long day, first-place (day .headers), records-few (day .records), w .within .short)
+
+  pub few-headers : length (day .headers) ≤ mostHeaders
+  few-headers = omega (arith, counted)
+
+  pub few-records : length (day .records) ≤ mostRecords
+  few-records = go (leb 1 (length (day .records))) refl
+    where
+      go : (b : Bool) → leb 1 (length (day .records)) ≡ b → length (day .records) ≤ mostRecords
+      go true e = omega (arith, counted, some-header (length (day .headers)) (day .records) (read-write file day low reads .within .records-fit) (leb-true 1 (length (day .records)) e))
+      go false e = omega (arith, leb-false 1 (length (day .records)) e)
 
 -- ---- The figures of a file
 

@@ -15,6 +15,13 @@ getD-tabFrom i (suc n) (suc k) f h = getD-tabFrom (suc i) n k f (le-of-suc-le-su
 pub getD-tab : (n k : ℕ) (f : ℕ → ℕ) → k < n → getD (tab n f) k 0 ≡ f k
 getD-tab n k f h = getD-tabFrom 0 n k f h ∙ ap f (zero-add k)
 
+length-tabFrom : (i n : ℕ) (f : ℕ → ℕ) → length (tabFrom i n f) ≡ n
+length-tabFrom i zero f = refl
+length-tabFrom i (suc n) f = ap suc (length-tabFrom (suc i) n f)
+
+pub length-tab : (n : ℕ) (f : ℕ → ℕ) → length (tab n f) ≡ n
+length-tab n f = length-tabFrom 0 n f
+
 -- the entries of l, from i on, by any function that gives them
 entries : (i : ℕ) (f : ℕ → ℕ) (l : List ℕ) → ((k : ℕ) → f (i + k) ≡ getD l k 0) → l ≡ tabFrom i (length l) f
 entries i f [] h = refl

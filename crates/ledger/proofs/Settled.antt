@@ -18,12 +18,18 @@ use Rattle.answer.specs.Outcomes.{outcome}
 use Rattle.laws.specs.Placing.{placed}
 use Rattle.day.specs.declared.Checked.the-variants as checked
 use Rattle.day.specs.Walks.{checkedAs}
+use Rattle.day.specs.Finds.{headersIn}
 use Rattle.line.specs.declared.Report.{Report}
 use Rattle.line.specs.Reports.{meaning}
 use Rattle.ledger.specs.declared.Told.{Told}
 use Rattle.ledger.specs.declared.Told.the-variants as told
 use Rattle.ledger.specs.Pauses.{pausesIn}
 use Rattle.ledger.specs.Reports.{reportAs, reportedAs}
+
+-- the number of headers that the check found
+pub checked-headers : (o : Option Day) (headers records first : ℕ) → checked.Day headers records first ≡ checkedAs o → headers ≡ headersIn o
+checked-headers none headers records first e = cc
+checked-headers (some day) headers records first e = cc
 
 -- ---- What the report is
 

@@ -1,5 +1,6 @@
 // The report of a day file, request E12: its pauses counted and summed, their longest and their mean, and the line.
-// One check of the file and then a walk over its records; each is opened into a small buffer, and nothing else is kept.
+// One check of the file, one walk over its headers for the marks, and one over its records: each is opened into a small buffer, and its header
+// found from a mark. Nothing else is kept.
 use answer::Answer;
 use answer::StretchBytes;
 use day::Checked;
@@ -14,7 +15,8 @@ ghost use Rattle.paper.specs.Document01.{readHeader};
 ghost use Rattle.paper.specs.DayFile.{readDay};
 ghost use Rattle.paper.specs.Ledger.{openedPause, reportOf, reporting, reportingFigures};
 ghost use Rattle.answer.specs.Outcomes.{outcome};
-ghost use Rattle.day.specs.Finds.{recordsIn};
+ghost use Rattle.day.specs.Finds.{headersIn, recordsIn};
+ghost use Rattle.day_marks.specs.Marks.{marksOf};
 ghost use Rattle.pause.specs.Answers.{markAs};
 ghost use Rattle.line.specs.Reports.{meaning};
 ghost use Rattle.ledger.specs.Pauses.{takenAs, pausesIn, pauseAt, totalsOf, addedTo, microsecondsIn};
@@ -56,11 +58,11 @@ fn pause_of(key: &[u8], header: &[u8], stretch: u64, sealed: &[u8]) -> Read
 }
 
 // The pause of record k.
-fn pause_at(key: &[u8], file: &[u8], records: usize, k: usize) -> Read
-    requires { ⌜ (records ≡ recordsIn (readDay (now file))) × (k < records) ⌝ }
+fn pause_at(key: &[u8], file: &[u8], marks: &[u32; 205], records: usize, k: usize) -> Read
+    requires { ⌜ (now marks ≡ marksOf (readDay (now file))) × (records ≡ recordsIn (readDay (now file))) × (k < records) ⌝ }
     ensures { λ r. ⌜ r ≡ takenAs (pauseAt (now (key .entry)) (readDay (now (file .entry))) k) ⌝ }
 {
-    let f = day::find(file, records, k);
+    let f = day_marks::find(file, marks, records, k);
     let header_start = f.header_start;
     let header_end = f.header_end;
     let start = f.start;
@@ -106,11 +108,12 @@ fn added(t: Totals, pause: Read) -> Totals
     }
 }
 
-// The totals of a file that reads and has so many records.
-fn totals(key: &[u8], file: &[u8], records: usize) -> Totals
-    requires { ⌜ records ≡ recordsIn (readDay (now file)) ⌝ }
+// The totals of a file that reads and has so many headers and records.
+fn totals(key: &[u8], file: &[u8], headers: usize, records: usize) -> Totals
+    requires { ⌜ (headers ≡ headersIn (readDay (now file))) × (records ≡ recordsIn (readDay (now file))) ⌝ }
     ensures { λ r. ⌜ r ≡ totalsOf (pausesIn (now (key .entry)) (readDay (now (file .entry)))) ⌝ }
 {
+    let marks = day_marks::marks(file, headers);
     let mut t = Totals {
         read: 0,
         refused: 0,
@@ -119,7 +122,7 @@ fn totals(key: &[u8], file: &[u8], records: usize) -> Totals
     };
     let mut k: usize = 0;
     while k < records {
-        let pause = pause_at(key, file, records, k);
+        let pause = pause_at(key, file, &marks, records, k);
         let more = added(t, pause);
         t = more;
         k += 1;
@@ -127,12 +130,12 @@ fn totals(key: &[u8], file: &[u8], records: usize) -> Totals
     t
 }
 
-// The report of a file that reads and has so many records.
-fn report_of(key: &[u8], file: &[u8], records: usize) -> Report
-    requires { ⌜ records ≡ recordsIn (readDay (now file)) ⌝ }
+// The report of a file that reads and has so many headers and records.
+fn report_of(key: &[u8], file: &[u8], headers: usize, records: usize) -> Report
+    requires { ⌜ (headers ≡ headersIn (readDay (now file))) × (records ≡ recordsIn (readDay (now file))) ⌝ }
     ensures { λ r. ⌜ meaning r ≡ reportOf (pausesIn (now (key .entry)) (readDay (now (file .entry)))) ⌝ }
 {
-    let t = totals(key, file, records);
+    let t = totals(key, file, headers, records);
     line::with_mean(t)
 }
 
@@ -141,7 +144,7 @@ fn reported(key: &[u8], file: &[u8]) -> Told
     ensures { λ r. ⌜ r ≡ reportedAs (now (key .entry)) (readDay (now (file .entry))) ⌝ }
 {
     let Checked::Day {
-        headers: _,
+        headers,
         records,
         first: _,
     } = day::check(file)
@@ -151,7 +154,7 @@ fn reported(key: &[u8], file: &[u8]) -> Told
     if key.len() != 48 {
         return Told::Refused(1);
     }
-    Told::Is(report_of(key, file, records))
+    Told::Is(report_of(key, file, headers, records))
 }
 
 // The report's line. Nothing is written before the answer is settled.

@@ -15,22 +15,28 @@ use Rattle.ledger.proofs.figures.Statement.{statement}
 use Rattle.ledger.proofs.figures.Tie as tie
 
 module _ (c : tie.After-reported) where
-  abbrev known : tie.After-shared-slice-known
-  known = c .before .before .before
+  abbrev known : tie.After-shared-slice-known2
+  known = c .before .before
+
+  abbrev start : tie.Start
+  start = known .before .before
 
   abbrev key : Bytes
-  key = known .before .args .key .now
+  key = start .args .key .now
 
   abbrev o : Option Day
-  o = readDay (known .before .args .file .now)
+  o = readDay (start .args .file .now)
 
   abbrev out : List ℕ
-  out = known .before .args .out .now
+  out = start .args .out .now
 
 -- there is a report
 module _ (c : tie.After-known-told2) where
+  abbrev matched : tie.At-match-keys2
+  matched = c .before .before
+
   abbrev told-it : tie.After-reported
-  told-it = c .before .before .before
+  told-it = matched .before
 
   abbrev r : Report
   r = c .before .r .given .0 .0

@@ -17,7 +17,7 @@ low : (c : tie.After-find) → Below 256 (start c .args .file .now)
 low c = below-of 256 (start c .args .file .now) (λ i p. omega (arith, c .before .shared-slice-known2 .given i))
 
 there : (c : tie.After-find) → Stands (start c .args .file .now) (start c .args .records) (start c .args .k)
-there c = let a = start c .args in stands (a .file .now) (low c) (a .records) (a .k) (start c .pre .0) (start c .pre .1)
+there c = let a = start c .args in stands (a .file .now) (low c) (a .records) (a .k) (start c .pre .1) (start c .pre .2)
 
 find-requires : tie.Need-find-requires
 find-requires c κs = search needs

@@ -8,17 +8,23 @@ use Rattle.paper.specs.DayFile.{Day, readDay}
 use Rattle.day.specs.declared.Checked.the-variants as checked
 use Rattle.day.specs.Walks.{checkedAs}
 use Rattle.day_open.proofs.Opens.{checked-records}
-use Rattle.ledger.proofs.Settled.{unread, no-key, is-report}
+use Rattle.ledger.proofs.Settled.{checked-headers, unread, no-key, is-report}
 use Rattle.ledger.proofs.reported.Statement.{statement}
 use Rattle.ledger.proofs.reported.Tie as tie
 
+abbrev known : tie.After-check → tie.After-shared-slice-known
+known c = c .before .before
+
 abbrev start : tie.After-check → tie.Start
-start c = c .before .before .before
+start c = known c .before
 
 -- the file reads
 module _ (c : tie.After-known-told) where
+  abbrev found : tie.After-headers
+  found = c .before
+
   abbrev checked-file : tie.After-check
-  checked-file = c .before .before .before
+  checked-file = found .before .before
 
   abbrev key : Bytes
   key = start checked-file .args .key .now
@@ -27,22 +33,22 @@ module _ (c : tie.After-known-told) where
   o = readDay (start checked-file .args .file .now)
 
   abbrev headers : ℕ
-  headers = c .before .records .given .0 .0
+  headers = found .headers .given .0 .0
 
   abbrev records : ℕ
-  records = c .before .records .given .0 .1 .0
+  records = found .headers .given .0 .1 .0
 
   abbrev first : ℕ
-  first = c .before .records .given .0 .1 .1 .0
+  first = found .headers .given .0 .1 .1 .0
 
   reads : checked.Day headers records first ≡ checkedAs o
-  reads = sym (c .before .records .given .1) ∙ checked-file .check .ensures
+  reads = sym (found .headers .given .1) ∙ checked-file .check .ensures
 
 check-requires : tie.Need-check-requires
 check-requires c κs = search needs
 
-enum-known-records : tie.Need-enum-known-records
-enum-known-records c = search needs
+enum-known-headers : tie.Need-enum-known-headers
+enum-known-headers c = search needs
 
 enum-told : tie.Need-enum-told
 enum-told c = search needs
@@ -57,7 +63,7 @@ returns-2 : tie.Need-returns-2
 returns-2 c = let t = c .before in no-key (key t) (o t) (headers t) (records t) (first t) (reads t) (c .if1 .taken)
 
 report-of-requires : tie.Need-report-of-requires
-report-of-requires c κs = let t = c .before in checked-records (o t) (headers t) (records t) (first t) (reads t)
+report-of-requires c κs = let t = c .before in (checked-headers (o t) (headers t) (records t) (first t) (reads t), checked-records (o t) (headers t) (records t) (first t) (reads t))
 
 returns-3 : tie.Need-returns-3
 returns-3 c =
@@ -66,4 +72,4 @@ returns-3 c =
     is-report (key t) (o t) (headers t) (records t) (first t) (reads t) (e .if1 .left) (c .report-of .result) (c .report-of .ensures)
 
 pub reported-spec : {M : Type 1} → statement M
-reported-spec = tie.close (tie.spec check-requires enum-known-records enum-told returns returns-2 report-of-requires returns-3)
+reported-spec = tie.close (tie.spec check-requires enum-known-headers enum-told returns returns-2 report-of-requires returns-3)

@@ -16,17 +16,23 @@ use Rattle.ledger.proofs.totals.Statement.{statement}
 use Rattle.ledger.proofs.totals.Tie as tie
 
 abbrev Inv-loop : tie.InvT-loop
-Inv-loop key file records t₀ k₀ t k = (k ≤ records) × Added (pausesIn key (readDay file)) k t
+Inv-loop key file headers records marks t₀ k₀ t k = (k ≤ records) × Added (pausesIn key (readDay file)) k t
 
 abbrev μ-loop : tie.MeasureT-loop
-μ-loop key file records t₀ k₀ t k = records - k
+μ-loop key file headers records marks t₀ k₀ t k = records - k
+
+abbrev begun : tie.After-shared-slice-known2 Inv-loop μ-loop → tie.Start Inv-loop μ-loop
+begun c = c .before .before
 
 module _ (l : tie.At-loop Inv-loop μ-loop) where
+  abbrev known : tie.After-shared-slice-known2 Inv-loop μ-loop
+  known = l .before .before
+
   abbrev start : tie.Start Inv-loop μ-loop
-  start = l .before .before .before
+  start = begun known
 
   low : Below 256 (start .args .file .now)
-  low = below-of 256 (start .args .file .now) (λ i p. omega (arith, l .before .shared-slice-known2 .given i))
+  low = below-of 256 (start .args .file .now) (λ i p. omega (arith, known .shared-slice-known2 .given i))
 
   abbrev pauses : List Pause
   pauses = pausesIn (start .args .key .now) (readDay (start .args .file .now))
@@ -34,20 +40,30 @@ module _ (l : tie.At-loop Inv-loop μ-loop) where
   many : length pauses ≡ recordsIn (readDay (start .args .file .now))
   many = pauses-are (start .args .key .now) (readDay (start .args .file .now))
 
+abbrev asked : tie.After-pause-at Inv-loop μ-loop → tie.In-loop Inv-loop μ-loop
+asked c = c .before .before
+
 inside : (c : tie.In-loop Inv-loop μ-loop) → c .before .loop .k < recordsIn (readDay (start (c .before) .args .file .now))
-inside c = omega (arith, c .loop-test .taken, start (c .before) .pre)
+inside c = omega (arith, c .loop-test .taken, start (c .before) .pre .1)
+
+marks-requires : tie.Need-marks-requires Inv-loop μ-loop
+marks-requires c κs = begun c .pre .0
 
 loop-holds : tie.Need-loop-holds Inv-loop μ-loop
-loop-holds c = (omega arith, none-added (pausesIn (c .before .before .args .key .now) (readDay (c .before .before .args .file .now))))
+loop-holds c = let a = begun (c .before) .args in (omega arith, none-added (pausesIn (a .key .now) (readDay (a .file .now))))
 
 pause-at-requires : tie.Need-pause-at-requires Inv-loop μ-loop
-pause-at-requires c κs = (start (c .before) .pre, c .loop-test .taken)
+pause-at-requires c κs =
+    let i = c .before in
+    let l = i .before in
+    (l .before .marks .ensures, start l .pre .1, i .loop-test .taken)
 
 added-requires : tie.Need-added-requires Inv-loop μ-loop
 added-requires c κs =
-    let l = c .before .before in
+    let i = asked c in
+    let l = i .before in
     let a = start l .args in
-    room (a .key .now) (a .file .now) (low l) (l .loop .k) (l .loop .t) (l .loop .inv .1) (inside (c .before)) (c .pause-at .result) (c .pause-at .ensures)
+    room (a .key .now) (a .file .now) (low l) (l .loop .k) (l .loop .t) (l .loop .inv .1) (inside i) (c .pause-at .result) (c .pause-at .ensures)
 
 add-k : tie.Need-add-k Inv-loop μ-loop
 add-k c = search needs
@@ -57,13 +73,13 @@ loop-less c = search needs
 
 loop-again : tie.Need-loop-again Inv-loop μ-loop
 loop-again c =
-    let i = c .before .before in
+    let i = asked (c .before) in
     let l = i .before in
     let ps = pauses l in
     (omega arith, subst (Added ps (l .loop .k + 1)) (sym (c .added .ensures)) (one-added ps (l .loop .k) (l .loop .t) (l .loop .inv .1) (omega (arith, many l, inside i)) (c .before .pause-at .result) (c .before .pause-at .ensures)))
 
 returns : tie.Need-returns Inv-loop μ-loop
-returns c = let l = c .before in all-added (pauses l) (l .loop .k) (l .loop .t) (l .loop .inv .1) (omega (arith, many l, start l .pre))
+returns c = let l = c .before in all-added (pauses l) (l .loop .k) (l .loop .t) (l .loop .inv .1) (omega (arith, many l, start l .pre .1))
 
 pub totals-spec : {M : Type 1} → statement M
 totals-spec =
@@ -71,6 +87,7 @@ totals-spec =
     (tie.spec
     Inv-loop
     μ-loop
+    marks-requires
     loop-holds
     pause-at-requires
     added-requires

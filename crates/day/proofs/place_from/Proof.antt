@@ -1,4 +1,4 @@
--- `day::length_place` meets its contract. The invariant: the place is that of the length bytes of the header that is next.
+-- `day::place_from` meets its contract. The invariant: the place is that of the length bytes of the header that is next.
 use mathlib.Core.Path.{_≡_, ap, _∙_}
 use Prim.Native.Nat.{ℕ, _+_, _-_, _≤_}
 use native.Mathlib.Omega.{arith}
@@ -8,15 +8,15 @@ use Rattle.paper.specs.Strings.{Bytes, Below}
 use Rattle.paper.specs.DayFile.{value, readDay}
 use Rattle.laws.proofs.Digits.{below-of}
 use Rattle.day.specs.Finds.{lengthPlace}
-use Rattle.day.proofs.Finding.{passed, first-header}
-use Rattle.day.proofs.length_place.Statement.{statement}
-use Rattle.day.proofs.length_place.Tie as tie
+use Rattle.day.proofs.Finding.{passed}
+use Rattle.day.proofs.place_from.Statement.{statement}
+use Rattle.day.proofs.place_from.Tie as tie
 
 abbrev Inv-loop : tie.InvT-loop
-Inv-loop file number at₀ i₀ at i = (i ≤ number) × (at ≡ lengthPlace (readDay file) i)
+Inv-loop file from at number place₀ i₀ place i = (i ≤ number) × (place ≡ lengthPlace (readDay file) i)
 
 abbrev μ-loop : tie.MeasureT-loop
-μ-loop file number at₀ i₀ at i = number - i
+μ-loop file from at number place₀ i₀ place i = number - i
 
 -- the header that is next lies within the file, and the one after it follows
 module _ (c : tie.In-loop Inv-loop μ-loop) where
@@ -27,25 +27,25 @@ module _ (c : tie.In-loop Inv-loop μ-loop) where
   f = known .before .args .file .now
 
   abbrev at : ℕ
-  at = c .before .loop .at
+  at = c .before .loop .place
 
   low : Below 256 f
   low = below-of 256 f (λ i p. omega (arith, known .shared-slice-known .given i))
 
   step : (at + 2 + value (take 2 (drop at f)) ≤ length f) × (at + 2 + value (take 2 (drop at f)) ≡ lengthPlace (readDay f) (c .before .loop .i + 1))
-  step = passed f low (c .before .loop .i) at (omega (arith, known .before .pre)) (c .before .loop .inv .1)
+  step = passed f low (c .before .loop .i) at (omega (arith, known .before .pre .2)) (c .before .loop .inv .1)
 
 loop-holds : tie.Need-loop-holds Inv-loop μ-loop
-loop-holds c = (omega arith, first-header (readDay (c .before .args .file .now)))
+loop-holds c = (c .before .pre .1, c .before .pre .0)
 
-add-at : tie.Need-add-at Inv-loop μ-loop
-add-at c = omega (arith, step c .0)
+add-place : tie.Need-add-place Inv-loop μ-loop
+add-place c = omega (arith, step c .0)
 
 two-requires : tie.Need-two-requires Inv-loop μ-loop
 two-requires c κs = omega (arith, step c .0)
 
-add-at-2 : tie.Need-add-at-2 Inv-loop μ-loop
-add-at-2 c = omega (arith, step (c .before) .0, c .two .ensures .0)
+add-place-2 : tie.Need-add-place-2 Inv-loop μ-loop
+add-place-2 c = omega (arith, step (c .before) .0, c .two .ensures .0)
 
 add-i : tie.Need-add-i Inv-loop μ-loop
 add-i c = search needs
@@ -58,20 +58,22 @@ loop-again c = (omega arith, ap (λ (n : ℕ). at (c .before) + 2 + n) (c .two .
 
 returns : tie.Need-returns Inv-loop μ-loop
 returns c =
-    let l = c .before .loop in
-    let last : l .i ≡ c .before .before .before .args .number = omega arith in
-    l .inv .1 ∙ ap (lengthPlace (readDay (c .before .before .before .args .file .now))) last
+    let last-test = c .before in
+    let l = last-test .loop in
+    let a = last-test .before .before .args in
+    let last : l .i ≡ a .number = omega arith in
+    l .inv .1 ∙ ap (lengthPlace (readDay (a .file .now))) last
 
-pub length-place-spec : {M : Type 1} → statement M
-length-place-spec =
+pub place-from-spec : {M : Type 1} → statement M
+place-from-spec =
     tie.close
     (tie.spec
     Inv-loop
     μ-loop
     loop-holds
-    add-at
+    add-place
     two-requires
-    add-at-2
+    add-place-2
     add-i
     loop-less
     loop-again
