@@ -179,7 +179,7 @@ module _ (key header : Bytes) (strings : List Bytes) (t : ℕ) (fixed : Fixed ke
         let size : r .length ≡ length X = ap (λ (o : OutcomeAt). o .size) e ∙ sym (laws.sealed-length key header strings t fixed M text) in
         ((λ i. take (size i) (ap (λ (o : OutcomeAt). o .output) e i)) ∙ take-append-seam X (drop (length X) out), fits .within)
 
-    written-long : length written ≡ length M + t
+    pub written-long : length written ≡ length M + t
     written-long = ap length (written-is .0) ∙ laws.sealed-length key header strings t fixed M text
 
     pub written-within : Within written

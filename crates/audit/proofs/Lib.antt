@@ -10,3 +10,4 @@ pub mod EditedDays
 pub mod Determined
 pub mod Composes
 pub mod Pauses
+pub mod SealedPauses
