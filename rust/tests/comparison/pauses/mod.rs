@@ -4,6 +4,7 @@ mod both;
 mod exports;
 
 mod locales;
+mod marks;
 mod reports;
 mod sizes;
 mod texts;
