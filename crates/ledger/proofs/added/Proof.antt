@@ -7,6 +7,12 @@ use borrow.Author.Needs.{needs}
 use Rattle.ledger.proofs.added.Statement.{statement}
 use Rattle.ledger.proofs.added.Tie as tie
 
+abbrev compared : tie.After-struct-known3 → tie.After-larger
+compared c = c .before .before
+
+abbrev read : tie.After-larger → tie.After-pause
+read c = c .before .before
+
 enum-told : tie.Need-enum-told
 enum-told c = search needs
 
@@ -23,18 +29,22 @@ add-t7 : tie.Need-add-t7
 add-t7 c = search needs
 
 add-t8 : tie.Need-add-t8
-add-t8 c = let p = c .before .before .before .before in omega (arith, p .before .before .pre .2, ap microsecondsIn (p .pause .given .1))
+add-t8 c = let p = read (compared c) in omega (arith, p .before .before .pre .2, ap microsecondsIn (p .pause .given .1))
 
 returns : tie.Need-returns
-returns c = let s = c .before .before .before in sym (ap (addedTo (s .args .t)) (c .before .enum-told .given .1))
+returns c =
+    let e = c .before in
+    let s = e .before .before in
+    sym (ap (addedTo (s .args .t)) (e .enum-told .given .1))
 
 returns-2 : tie.Need-returns-2
 returns-2 c =
-    let p = c .before .before .before .before in
+    let l = compared c in
+    let p = read l in
     let s = p .before .before in
     let t = s .args .t in
     let n = p .pause .given .0 .0 in
-    ap (λ (l : ℕ). record { read = t .read + 1; refused = t .refused; sum = t .sum + n; longest = l }) (c .before .before .larger .ensures)
+    ap (λ (l : ℕ). record { read = t .read + 1; refused = t .refused; sum = t .sum + n; longest = l }) (l .larger .ensures)
     ∙ sym (ap (addedTo t) (p .pause .given .1))
 
 pub added-spec : {M : Type 1} → statement M

@@ -15,8 +15,14 @@ use Rattle.ledger.proofs.open_in.Tie as tie
 
 -- once the string was opened
 module _ (c : tie.After-open) where
+  abbrev lent : tie.After-slice-known
+  lent = c .before .before
+
+  abbrev known : tie.After-shared-slice-known2
+  known = lent .before .before
+
   abbrev start : tie.Start
-  start = c .before .before .before .before .before .before
+  start = known .before .before
 
   abbrev key : Bytes
   key = start .args .key .now
@@ -37,13 +43,13 @@ module _ (c : tie.After-open) where
   last = c .«open» .last .1 .1 .1 .1 .0
 
   key-low : Below 256 key
-  key-low = below-of 256 key (λ i p. omega (arith, c .before .before .before .before .before .shared-slice-known .given i))
+  key-low = below-of 256 key (λ i p. omega (arith, known .before .shared-slice-known .given i))
 
   header-low : Below 256 header
-  header-low = below-of 256 header (λ i p. omega (arith, c .before .before .before .before .shared-slice-known2 .given i))
+  header-low = below-of 256 header (λ i p. omega (arith, known .shared-slice-known2 .given i))
 
   sealed-low : Below 256 sealed
-  sealed-low = below-of 256 sealed (λ i p. omega (arith, c .before .before .before .shared-slice-known3 .given i))
+  sealed-low = below-of 256 sealed (λ i p. omega (arith, lent .before .shared-slice-known3 .given i))
 
   -- the text lies within the output
   inside : c .«open» .result .number ≡ 0 → c .«open» .result .length ≤ length last
@@ -53,8 +59,14 @@ module _ (c : tie.After-open) where
       omega
       (arith, ap (λ (o : OutcomeAt). o .size) e, x .size, x .long, ap length (start .pre .1), length-replicate {A = ℕ} (length sealed) 0, c .«open» .kept .1 .1 .1 .1 .0)
 
-abbrev opened : tie.Else1 → tie.After-open
-opened c = c .before .before .before .before
+abbrev returned : tie.After-struct-known → tie.After-out
+returned c = c .before .before
+
+abbrev opened : tie.After-struct-known → tie.After-open
+opened c = returned c .before
+
+abbrev text-lent : tie.After-read-text → tie.After-out2
+text-lent c = c .before .before
 
 open-requires : tie.Need-open-requires
 open-requires c κs = search needs
@@ -64,7 +76,7 @@ same-length c = search needs
 
 returns : tie.Need-returns
 returns c =
-    let o = c .before .before .before .before in
+    let o = opened (c .before) in
     no-text (key o) (header o) (t o) (sealed o) (o .«open» .result) (last o) (out o) (start o .pre .1) (o .«open» .ensures) (c .if1 .taken)
 
 sub-read-text : tie.Need-sub-read-text
@@ -74,7 +86,7 @@ part-read-text-start : tie.Need-part-read-text-start
 part-read-text-start c = search needs
 
 part-read-text-end : tie.Need-part-read-text-end
-part-read-text-end c = let e = c .before in inside (opened e) (e .if1 .left)
+part-read-text-end c = let e = c .before in inside (opened (e .before)) (e .if1 .left)
 
 read-text-requires : tie.Need-read-text-requires
 read-text-requires c κs = search needs
@@ -84,8 +96,8 @@ same-length-2 c = search needs
 
 returns-2 : tie.Need-returns-2
 returns-2 c =
-    let e = c .before .before .before in
-    let o = opened e in
+    let e = text-lent c .before in
+    let o = opened (e .before) in
     let n = o .«open» .result .length in
     c .read-text .ensures
     ∙ by-text (key o) (header o) (t o) (sealed o) (o .«open» .result) (last o) (out o) (start o .pre .1) (o .«open» .ensures) (e .if1 .left) (start o .args .mark) (start o .pre .0) _

@@ -10,8 +10,14 @@ use borrow.Author.Needs.{needs}
 use Rattle.ledger.proofs.pause_at.Statement.{statement}
 use Rattle.ledger.proofs.pause_at.Tie as tie
 
+abbrev known : tie.After-find → tie.After-shared-slice-known
+known c = c .before .before
+
 abbrev start : tie.After-find → tie.Start
-start c = c .before .before .before
+start c = known c .before
+
+abbrev found : tie.After-pause-of-arg2 → tie.After-find
+found c = c .before .before
 
 low : (c : tie.After-find) → Below 256 (start c .args .file .now)
 low c = below-of 256 (start c .args .file .now) (λ i p. omega (arith, c .before .shared-slice-known2 .given i))
@@ -45,7 +51,7 @@ pause-of-requires c κs = search needs
 
 returns : tie.Need-returns
 returns c =
-    let f = c .before .before .before in
+    let f = found (c .before) in
     let a = start f .args in
     c .pause-of .ensures
     ∙ ap takenAs (found-pause (a .key .now) (a .file .now) (low f) (a .records) (a .k) (there f) (f .find .result) (f .find .ensures .0))

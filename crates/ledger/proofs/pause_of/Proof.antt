@@ -11,8 +11,11 @@ use Rattle.ledger.proofs.pause_of.Statement.{statement}
 use Rattle.ledger.proofs.pause_of.Tie as tie
 
 module _ (c : tie.After-shared-slice-known3) where
+  abbrev known : tie.After-shared-slice-known
+  known = c .before .before
+
   abbrev start : tie.Start
-  start = c .before .before .before
+  start = known .before
 
   abbrev key : Bytes
   key = start .args .key .now
@@ -24,7 +27,7 @@ module _ (c : tie.After-shared-slice-known3) where
   sealed = start .args .sealed .now
 
   key-low : Below 256 key
-  key-low = below-of 256 key (λ i p. omega (arith, c .before .before .shared-slice-known .given i))
+  key-low = below-of 256 key (λ i p. omega (arith, known .shared-slice-known .given i))
 
   header-low : Below 256 header
   header-low = below-of 256 header (λ i p. omega (arith, c .before .shared-slice-known2 .given i))
