@@ -15,6 +15,7 @@ use Rattle.laws.proofs.BitStrings.{length-digits}
 use Rattle.laws.proofs.Digits.{below-take}
 use Rattle.laws.proofs.DayWritten.{Layout, first-place, index-long, day-long}
 use Rattle.laws.proofs.DayReading.{read-write, record-fits}
+use Rattle.laws.proofs.LedgerSums.{few-headers}
 use Rattle.laws.proofs.Picks.{pick-many}
 use Rattle.laws.proofs.DayCleared.{strings-less, cleared-shorter, cleared-many}
 use Rattle.laws.specs.Placing.{placed}
@@ -28,7 +29,6 @@ use Rattle.day_clear.proofs.Steps.{Begun, lastOf, Marked, CountPut, Hea
 use Rattle.day_clear.proofs.Table.{bits-count, tallied-at}
 use Rattle.day_clear.proofs.Packs.{packed-start, packed-more, packed-then, packed-as}
 use Rattle.day_clear.proofs.Linked.{head-at, heads-are, fits-at, number-is, named-is, records-are}
-use Rattle.day_clear.proofs.Few.{headers-at-most}
 
 module _ (b : Begun) where
   abbrev B : Bytes
@@ -121,7 +121,7 @@ module _ (b : Begun) where
   size-short = omega (arith, ap length written, length-take-le size B (ok .inside), within .short)
 
   few : length hs ≤ 13104
-  few = headers-at-most day within
+  few = few-headers (take size B) day (below-take 256 size B (b .low)) (ok .reads)
 
   pub headers-few : headers ≤ 13104
   headers-few = omega (arith, few, ok .headers-are)

@@ -3,7 +3,6 @@ mod Beside
 mod Packs
 mod Turns
 mod Linked
-mod Few
 mod Steps
 mod Clears
 mod Answers
