@@ -1,46 +1,19 @@
--- Columns as numbers: sums, turns and doubles of their bytes, MixColumns of a column, and a round on four of them.
+-- The steps of a round on columns: turns and doubles of a column's bytes, MixColumns of a column, and a round on four of them.
 use mathlib.Core.List.{[], _∷_}
 use mathlib.Core.Path.{_≡_, refl, ap, ap₂, sym, _∙_}
-use Prim.Native.Nat.{ℕ, _+_, _*_, _/_, _%_, _^_, _<_}
-use native.Mathlib.Nat.{zero-lt-suc}
+use Prim.Native.Nat.{ℕ, _*_, _/_, _%_, _<_}
 use native.Mathlib.Omega.{arith}
-use lib.Bits.{bitXor, bitAnd, xor-block, xor-shr, xor-mod, xor-lt, and-block, and-mask, and-high}
-use lib.ListN.{getD}
-use Rattle.paper.specs.Strings.{Bytes, Block, zip, _⊕_}
+use lib.Bits.{bitXor, bitAnd, xor-block, and-block, and-mask, and-high}
+use Rattle.paper.specs.Strings.{zip, _⊕_}
 use Rattle.paper.specs.Fips197.{xtime, sbox, SubBytes, ShiftRows, MixColumns}
 use Rattle.laws.proofs.AesBlocks.{sbox-byte, xtime-byte}
-use Rattle.laws.proofs.Digits.{below-getD}
-use Rattle.laws.proofs.Tables.{tab-entries}
-use Rattle.laws.proofs.Round.{xtime-mask, mix-columns}
-use Rattle.aes.specs.Columns.{row0, row1, row2, row3, column, columnAt, turnedUp, doubled, mixedColumn, shiftedColumn, stateBytes}
+use Rattle.laws.proofs.Round.{xtime-mask, xtime-xor, mix-columns}
+use Rattle.laws.proofs.Xor.{xor-assoc}
+use Rattle.columns.specs.Columns.{row0, row1, row2, row3, column, blockOf}
+use Rattle.columns.proofs.Rows.{Four, by-bytes, xor-four, column-row0, column-row1, column-row2, column-row3}
+use Rattle.aes.specs.Steps.{turnedUp, doubled, mixedColumn, shiftedColumn}
 
--- four bytes
-record Four (a b c d : ℕ) : Type 0 where
-  byte0 : a < 256
-  byte1 : b < 256
-  byte2 : c < 256
-  byte3 : d < 256
-
--- ---- bytes of a sum, of a turn and of a double
-
--- what works bit by bit works byte by byte
-module _ (f : ℕ → ℕ → ℕ)
-    (block : (k a b r s : ℕ) → r < 2 ^ k → s < 2 ^ k → f (a * 2 ^ k + r) (b * 2 ^ k + s) ≡ f a b * 2 ^ k + f r s) where
-  by-bytes : (a b c d a' b' c' d' : ℕ) → Four a b c d → Four a' b' c' d'
-      → f (column a b c d) (column a' b' c' d') ≡ column (f a a') (f b b') (f c c') (f d d')
-  by-bytes a b c d a' b' c' d' p q =
-      block 8 ((a * 256 + b) * 256 + c) ((a' * 256 + b') * 256 + c') d d' (p .byte3) (q .byte3)
-      ∙ ap (λ (n : ℕ). n * 256 + f d d')
-      (block 8 (a * 256 + b) (a' * 256 + b') c c' (p .byte2) (q .byte2)
-      ∙ ap (λ (n : ℕ). n * 256 + f c c') (block 8 a a' b b' (p .byte1) (q .byte1)))
-
-xor-four : (a b c d a' b' c' d' : ℕ) → Four a b c d → Four a' b' c' d' → Four (bitXor a a') (bitXor b b') (bitXor c c') (bitXor d d')
-xor-four a b c d a' b' c' d' p q = record {
-  byte0 = xor-lt 8 a a' (p .byte0) (q .byte0);
-  byte1 = xor-lt 8 b b' (p .byte1) (q .byte1);
-  byte2 = xor-lt 8 c c' (p .byte2) (q .byte2);
-  byte3 = xor-lt 8 d d' (p .byte3) (q .byte3);
-}
+-- ---- bytes of a turn and of a double
 
 turned-column : (a b c d : ℕ) → Four a b c d → turnedUp (column a b c d) ≡ column b c d a
 turned-column a b c d p = omega arith
@@ -83,133 +56,59 @@ module _ (a b c d : ℕ) (p : Four a b c d) where
 -- ---- MixColumns of a column
 
 module _ (a b c d : ℕ) (p : Four a b c d) where
-  doubles : Four (xtime a) (xtime b) (xtime c) (xtime d)
-  doubles = record { byte0 = xtime-byte a; byte1 = xtime-byte b; byte2 = xtime-byte c; byte3 = xtime-byte d }
-
   below : Four b c d a
   below = record { byte0 = p .byte1; byte1 = p .byte2; byte2 = p .byte3; byte3 = p .byte0 }
 
   -- each byte and the one below it
-  with-below : bitXor (column a b c d) (turnedUp (column a b c d)) ≡ column (bitXor a b) (bitXor b c) (bitXor c d) (bitXor d a)
-  with-below = ap (bitXor (column a b c d)) (turned-column a b c d p) ∙ by-bytes bitXor xor-block a b c d b c d a p below
+  pairs : bitXor (column a b c d) (turnedUp (column a b c d)) ≡ column (bitXor a b) (bitXor b c) (bitXor c d) (bitXor d a)
+  pairs = ap (bitXor (column a b c d)) (turned-column a b c d p) ∙ by-bytes bitXor xor-block a b c d b c d a p below
 
-  two-below : turnedUp (bitXor (column a b c d) (turnedUp (column a b c d))) ≡ column (bitXor b c) (bitXor c d) (bitXor d a) (bitXor a b)
-  two-below = ap turnedUp with-below ∙ turned-column (bitXor a b) (bitXor b c) (bitXor c d) (bitXor d a) (xor-four a b c d b c d a p below)
+  pairs-four : Four (bitXor a b) (bitXor b c) (bitXor c d) (bitXor d a)
+  pairs-four = xor-four a b c d b c d a p below
 
-  below-pairs : Four (bitXor b c) (bitXor c d) (bitXor d a) (bitXor a b)
-  below-pairs = xor-four b c d a c d a b below (record { byte0 = p .byte2; byte1 = p .byte3; byte2 = p .byte0; byte3 = p .byte1 })
+  -- the pairs turned up, so that each is the two bytes below
+  two-below : Four (bitXor b c) (bitXor c d) (bitXor d a) (bitXor a b)
+  two-below = record { byte0 = pairs-four .byte1; byte1 = pairs-four .byte2; byte2 = pairs-four .byte3; byte3 = pairs-four .byte0 }
 
-  others-four : Four (bitXor (bitXor (xtime a) a) (bitXor b c)) (bitXor (bitXor (xtime b) b) (bitXor c d))
-      (bitXor (bitXor (xtime c) c) (bitXor d a)) (bitXor (bitXor (xtime d) d) (bitXor a b))
-  others-four =
-      xor-four (bitXor (xtime a) a) (bitXor (xtime b) b) (bitXor (xtime c) c) (bitXor (xtime d) d)
-      (bitXor b c) (bitXor c d) (bitXor d a) (bitXor a b)
-      (xor-four (xtime a) (xtime b) (xtime c) (xtime d) a b c d doubles p)
-      below-pairs
+  triples-four : Four (bitXor a (bitXor b c)) (bitXor b (bitXor c d)) (bitXor c (bitXor d a)) (bitXor d (bitXor a b))
+  triples-four = xor-four a b c d (bitXor b c) (bitXor c d) (bitXor d a) (bitXor a b) p two-below
 
-  -- 3 of each byte and the two below it
-  others : bitXor (bitXor (doubled (column a b c d)) (column a b c d)) (turnedUp (bitXor (column a b c d) (turnedUp (column a b c d))))
-      ≡ column (bitXor (bitXor (xtime a) a) (bitXor b c)) (bitXor (bitXor (xtime b) b) (bitXor c d))
-      (bitXor (bitXor (xtime c) c) (bitXor d a)) (bitXor (bitXor (xtime d) d) (bitXor a b))
-  others =
-      ap₂ bitXor
-      (ap (λ (n : ℕ). bitXor n (column a b c d)) (double-column a b c d p) ∙ by-bytes bitXor xor-block (xtime a) (xtime b) (xtime c) (xtime d) a b c d doubles p)
-      two-below
-      ∙ by-bytes bitXor xor-block (bitXor (xtime a) a) (bitXor (xtime b) b) (bitXor (xtime c) c) (bitXor (xtime d) d)
-      (bitXor b c) (bitXor c d) (bitXor d a) (bitXor a b)
-      (xor-four (xtime a) (xtime b) (xtime c) (xtime d) a b c d doubles p)
-      below-pairs
+  -- the three bytes below each
+  three-below : turnedUp (bitXor (column a b c d) (turnedUp (column (bitXor a b) (bitXor b c) (bitXor c d) (bitXor d a))))
+      ≡ column (bitXor b (bitXor c d)) (bitXor c (bitXor d a)) (bitXor d (bitXor a b)) (bitXor a (bitXor b c))
+  three-below =
+      ap turnedUp
+      (ap (bitXor (column a b c d)) (turned-column (bitXor a b) (bitXor b c) (bitXor c d) (bitXor d a) pairs-four)
+      ∙ by-bytes bitXor xor-block a b c d (bitXor b c) (bitXor c d) (bitXor d a) (bitXor a b) p two-below)
+      ∙ turned-column (bitXor a (bitXor b c)) (bitXor b (bitXor c d)) (bitXor c (bitXor d a)) (bitXor d (bitXor a b)) triples-four
+
+  below-four : Four (bitXor b (bitXor c d)) (bitXor c (bitXor d a)) (bitXor d (bitXor a b)) (bitXor a (bitXor b c))
+  below-four = record { byte0 = triples-four .byte1; byte1 = triples-four .byte2; byte2 = triples-four .byte3; byte3 = triples-four .byte0 }
+
+  doubles : Four (xtime (bitXor a b)) (xtime (bitXor b c)) (xtime (bitXor c d)) (xtime (bitXor d a))
+  doubles = record { byte0 = xtime-byte (bitXor a b); byte1 = xtime-byte (bitXor b c); byte2 = xtime-byte (bitXor c d); byte3 = xtime-byte (bitXor d a) }
 
   mix : mixedColumn (column a b c d)
-      ≡ column (bitXor (xtime a) (bitXor (bitXor (xtime b) b) (bitXor c d))) (bitXor (xtime b) (bitXor (bitXor (xtime c) c) (bitXor d a)))
-      (bitXor (xtime c) (bitXor (bitXor (xtime d) d) (bitXor a b))) (bitXor (xtime d) (bitXor (bitXor (xtime a) a) (bitXor b c)))
+      ≡ column (bitXor (xtime (bitXor a b)) (bitXor b (bitXor c d))) (bitXor (xtime (bitXor b c)) (bitXor c (bitXor d a)))
+      (bitXor (xtime (bitXor c d)) (bitXor d (bitXor a b))) (bitXor (xtime (bitXor d a)) (bitXor a (bitXor b c)))
   unfolding mixedColumn
   mix =
-      ap₂ bitXor (double-column a b c d p) (ap turnedUp others ∙ turned-column _ _ _ _ others-four)
-      ∙ by-bytes bitXor xor-block (xtime a) (xtime b) (xtime c) (xtime d)
-      (bitXor (bitXor (xtime b) b) (bitXor c d)) (bitXor (bitXor (xtime c) c) (bitXor d a))
-      (bitXor (bitXor (xtime d) d) (bitXor a b)) (bitXor (bitXor (xtime a) a) (bitXor b c))
-      doubles
-      (record { byte0 = others-four .byte1; byte1 = others-four .byte2; byte2 = others-four .byte3; byte3 = others-four .byte0 })
+      ap (λ (n : ℕ). bitXor (doubled n) (turnedUp (bitXor (column a b c d) (turnedUp n)))) pairs
+      ∙ ap₂ bitXor (double-column (bitXor a b) (bitXor b c) (bitXor c d) (bitXor d a) pairs-four) three-below
+      ∙ by-bytes bitXor xor-block (xtime (bitXor a b)) (xtime (bitXor b c)) (xtime (bitXor c d)) (xtime (bitXor d a))
+      (bitXor b (bitXor c d)) (bitXor c (bitXor d a)) (bitXor d (bitXor a b)) (bitXor a (bitXor b c)) doubles below-four
 
-  mix-four : Four (bitXor (xtime a) (bitXor (bitXor (xtime b) b) (bitXor c d))) (bitXor (xtime b) (bitXor (bitXor (xtime c) c) (bitXor d a)))
-      (bitXor (xtime c) (bitXor (bitXor (xtime d) d) (bitXor a b))) (bitXor (xtime d) (bitXor (bitXor (xtime a) a) (bitXor b c)))
+  mix-four : Four (bitXor (xtime (bitXor a b)) (bitXor b (bitXor c d))) (bitXor (xtime (bitXor b c)) (bitXor c (bitXor d a)))
+      (bitXor (xtime (bitXor c d)) (bitXor d (bitXor a b))) (bitXor (xtime (bitXor d a)) (bitXor a (bitXor b c)))
   mix-four =
-      xor-four (xtime a) (xtime b) (xtime c) (xtime d)
-      (bitXor (bitXor (xtime b) b) (bitXor c d)) (bitXor (bitXor (xtime c) c) (bitXor d a))
-      (bitXor (bitXor (xtime d) d) (bitXor a b)) (bitXor (bitXor (xtime a) a) (bitXor b c))
-      doubles
-      (record { byte0 = others-four .byte1; byte1 = others-four .byte2; byte2 = others-four .byte3; byte3 = others-four .byte0 })
+      xor-four (xtime (bitXor a b)) (xtime (bitXor b c)) (xtime (bitXor c d)) (xtime (bitXor d a))
+      (bitXor b (bitXor c d)) (bitXor c (bitXor d a)) (bitXor d (bitXor a b)) (bitXor a (bitXor b c)) doubles below-four
+
+-- 2 of a pair is 2 of each of the two
+apart : (a b c d : ℕ) → a < 256 → b < 256 → bitXor (xtime (bitXor a b)) (bitXor b (bitXor c d)) ≡ bitXor (xtime a) (bitXor (bitXor (xtime b) b) (bitXor c d))
+apart a b c d h g = ap (λ (n : ℕ). bitXor n (bitXor b (bitXor c d))) (xtime-xor a b h g) ∙ simp xor-assoc
 
 -- ---- four columns
-
-module _ (w a b c d : ℕ) (e : w ≡ column a b c d) (p : Four a b c d) where
-  column-row0 : row0 w ≡ a
-  column-row0 = omega arith
-
-  column-row1 : row1 w ≡ b
-  column-row1 = omega arith
-
-  column-row2 : row2 w ≡ c
-  column-row2 = omega arith
-
-  column-row3 : row3 w ≡ d
-  column-row3 = omega arith
-
-module _ (v w : ℕ) where
-  xor-row0 : row0 (bitXor v w) ≡ bitXor (row0 v) (row0 w)
-  xor-row0 = ap row3 (xor-shr v w 24) ∙ xor-mod (v / 16777216) (w / 16777216) 8
-
-  xor-row1 : row1 (bitXor v w) ≡ bitXor (row1 v) (row1 w)
-  xor-row1 = ap row3 (xor-shr v w 16) ∙ xor-mod (v / 65536) (w / 65536) 8
-
-  xor-row2 : row2 (bitXor v w) ≡ bitXor (row2 v) (row2 w)
-  xor-row2 = ap row3 (xor-shr v w 8) ∙ xor-mod (v / 256) (w / 256) 8
-
-  xor-row3 : row3 (bitXor v w) ≡ bitXor (row3 v) (row3 w)
-  xor-row3 = xor-mod v w 8
-
--- the sum of two states
-pub added : (a b c d a' b' c' d' : ℕ)
-    → stateBytes (bitXor a a' ∷ bitXor b b' ∷ bitXor c c' ∷ bitXor d d' ∷ []) ≡ stateBytes (a ∷ b ∷ c ∷ d ∷ []) ⊕ stateBytes (a' ∷ b' ∷ c' ∷ d' ∷ [])
-unfolding _⊕_ zip
-added a b c d a' b' c' d' =
-    λ i.
-    xor-row0 a a' i ∷ xor-row1 a a' i ∷ xor-row2 a a' i ∷ xor-row3 a a' i
-    ∷ xor-row0 b b' i ∷ xor-row1 b b' i ∷ xor-row2 b b' i ∷ xor-row3 b b' i
-    ∷ xor-row0 c c' i ∷ xor-row1 c c' i ∷ xor-row2 c c' i ∷ xor-row3 c c' i
-    ∷ xor-row0 d d' i ∷ xor-row1 d d' i ∷ xor-row2 d d' i ∷ xor-row3 d d' i
-    ∷ []
-
--- the columns of 16 bytes
-pub columns : (x : Bytes) → Block x
-    → stateBytes (columnAt x 0 ∷ columnAt x 4 ∷ columnAt x 8 ∷ columnAt x 12 ∷ []) ≡ x
-columns x p =
-    (λ i.
-    r0 0 i ∷ r1 0 i ∷ r2 0 i ∷ r3 0 i
-    ∷ r0 4 i ∷ r1 4 i ∷ r2 4 i ∷ r3 4 i
-    ∷ r0 8 i ∷ r1 8 i ∷ r2 8 i ∷ r3 8 i
-    ∷ r0 12 i ∷ r1 12 i ∷ r2 12 i ∷ r3 12 i
-    ∷ [])
-    ∙ sym (tab-entries 16 x (p .len))
-  where
-    four : (n : ℕ) → Four (getD x n 0) (getD x (n + 1) 0) (getD x (n + 2) 0) (getD x (n + 3) 0)
-    four n = record { byte0 = b n; byte1 = b (n + 1); byte2 = b (n + 2); byte3 = b (n + 3) }
-      where
-        b : (k : ℕ) → getD x k 0 < 256
-        b k = below-getD 256 k x (zero-lt-suc 255) (p .low)
-
-    r0 : (n : ℕ) → row0 (columnAt x n) ≡ getD x n 0
-    r0 n = column-row0 _ (getD x n 0) (getD x (n + 1) 0) (getD x (n + 2) 0) (getD x (n + 3) 0) refl (four n)
-
-    r1 : (n : ℕ) → row1 (columnAt x n) ≡ getD x (n + 1) 0
-    r1 n = column-row1 _ (getD x n 0) (getD x (n + 1) 0) (getD x (n + 2) 0) (getD x (n + 3) 0) refl (four n)
-
-    r2 : (n : ℕ) → row2 (columnAt x n) ≡ getD x (n + 2) 0
-    r2 n = column-row2 _ (getD x n 0) (getD x (n + 1) 0) (getD x (n + 2) 0) (getD x (n + 3) 0) refl (four n)
-
-    r3 : (n : ℕ) → row3 (columnAt x n) ≡ getD x (n + 3) 0
-    r3 n = column-row3 _ (getD x n 0) (getD x (n + 1) 0) (getD x (n + 2) 0) (getD x (n + 3) 0) refl (four n)
 
 -- the rows of a column that a round makes
 module _ (a b c d : ℕ) where
@@ -230,23 +129,23 @@ module _ (a b c d : ℕ) where
 
   mixed-row0 : row0 (mixedColumn (shiftedColumn a b c d)) ≡ bitXor (xtime s0) (bitXor (bitXor (xtime s1) s1) (bitXor s2 s3))
   unfolding shiftedColumn
-  mixed-row0 = column-row0 _ _ _ _ _ (mix s0 s1 s2 s3 subs) (mix-four s0 s1 s2 s3 subs)
+  mixed-row0 = column-row0 _ _ _ _ _ (mix s0 s1 s2 s3 subs) (mix-four s0 s1 s2 s3 subs) ∙ apart s0 s1 s2 s3 (subs .byte0) (subs .byte1)
 
   mixed-row1 : row1 (mixedColumn (shiftedColumn a b c d)) ≡ bitXor (xtime s1) (bitXor (bitXor (xtime s2) s2) (bitXor s3 s0))
   unfolding shiftedColumn
-  mixed-row1 = column-row1 _ _ _ _ _ (mix s0 s1 s2 s3 subs) (mix-four s0 s1 s2 s3 subs)
+  mixed-row1 = column-row1 _ _ _ _ _ (mix s0 s1 s2 s3 subs) (mix-four s0 s1 s2 s3 subs) ∙ apart s1 s2 s3 s0 (subs .byte1) (subs .byte2)
 
   mixed-row2 : row2 (mixedColumn (shiftedColumn a b c d)) ≡ bitXor (xtime s2) (bitXor (bitXor (xtime s3) s3) (bitXor s0 s1))
   unfolding shiftedColumn
-  mixed-row2 = column-row2 _ _ _ _ _ (mix s0 s1 s2 s3 subs) (mix-four s0 s1 s2 s3 subs)
+  mixed-row2 = column-row2 _ _ _ _ _ (mix s0 s1 s2 s3 subs) (mix-four s0 s1 s2 s3 subs) ∙ apart s2 s3 s0 s1 (subs .byte2) (subs .byte3)
 
   mixed-row3 : row3 (mixedColumn (shiftedColumn a b c d)) ≡ bitXor (xtime s3) (bitXor (bitXor (xtime s0) s0) (bitXor s1 s2))
   unfolding shiftedColumn
-  mixed-row3 = column-row3 _ _ _ _ _ (mix s0 s1 s2 s3 subs) (mix-four s0 s1 s2 s3 subs)
+  mixed-row3 = column-row3 _ _ _ _ _ (mix s0 s1 s2 s3 subs) (mix-four s0 s1 s2 s3 subs) ∙ apart s3 s0 s1 s2 (subs .byte3) (subs .byte0)
 
 -- the four columns that a round makes, before the key
 pub mixed-all : (a b c d : ℕ)
-    → stateBytes (mixedColumn (shiftedColumn a b c d) ∷ mixedColumn (shiftedColumn b c d a) ∷ mixedColumn (shiftedColumn c d a b) ∷ mixedColumn (shiftedColumn d a b c) ∷ []) ≡ MixColumns (ShiftRows (SubBytes (stateBytes (a ∷ b ∷ c ∷ d ∷ []))))
+    → blockOf (mixedColumn (shiftedColumn a b c d) ∷ mixedColumn (shiftedColumn b c d a) ∷ mixedColumn (shiftedColumn c d a b) ∷ mixedColumn (shiftedColumn d a b c) ∷ []) ≡ MixColumns (ShiftRows (SubBytes (blockOf (a ∷ b ∷ c ∷ d ∷ []))))
 unfolding SubBytes ShiftRows _⊕_ zip
 mixed-all a b c d =
     (λ i.
@@ -255,4 +154,4 @@ mixed-all a b c d =
     ∷ mixed-row0 c d a b i ∷ mixed-row1 c d a b i ∷ mixed-row2 c d a b i ∷ mixed-row3 c d a b i
     ∷ mixed-row0 d a b c i ∷ mixed-row1 d a b c i ∷ mixed-row2 d a b c i ∷ mixed-row3 d a b c i
     ∷ [])
-    ∙ mix-columns (ShiftRows (SubBytes (stateBytes (a ∷ b ∷ c ∷ d ∷ [])))) refl
+    ∙ mix-columns (ShiftRows (SubBytes (blockOf (a ∷ b ∷ c ∷ d ∷ [])))) refl

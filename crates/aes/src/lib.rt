@@ -1,17 +1,20 @@
 // The AES round of FIPS 197, and AES4 and AES10 of the AEZ paper's section 7. The last round keeps its MixColumns.
-// The state is kept as four columns, each one number, its first byte the highest: MixColumns then works on four bytes at once.
+// The state is a block of columns (`columns`): MixColumns then works on four bytes at once.
+use columns::Columns;
+ghost use mathlib.Core.List.{map};
 ghost use mathlib.Core.Path.{_≡_};
-ghost use Prim.Native.Nat.{_<_, _≤_};
+ghost use Prim.Native.Nat.{_≤_};
 ghost use lib.ListN.{length};
-ghost use Rattle.paper.specs.Strings.{tab, _⊕_};
+ghost use Rattle.paper.specs.Strings.{tab};
 ghost use Rattle.paper.specs.Fips197.{sbox};
 ghost use Rattle.paper.specs.Section7.{aesenc, AES, AES4, AES10};
-ghost use Rattle.aes.specs.Columns.{row0, row1, row2, row3, column, columnAt, turnedUp, doubled, mixedColumn, shiftedColumn, stateBytes};
+ghost use Rattle.columns.specs.Columns.{row0, row1, row2, row3, columnsOf, blockOf};
+ghost use Rattle.aes.specs.Steps.{turnedUp, doubled, mixedColumn, shiftedColumn};
 
 mod sbox;
 
 // The table of the S-box. A call of AES4 or AES10 names it once and lends it to its rounds.
-fn sboxes() -> [u8; 256]
+pub fn sboxes() -> [u8; 256]
     ensures { λ r. ⌜ r ≡ tab 256 sbox ⌝ }
 {
     sbox::SBOX
@@ -49,19 +52,6 @@ fn row3(w: u32) -> u8
     (w % 256) as u8
 }
 
-fn as_number(x: u8) -> u32
-    ensures { λ r. ⌜ (r ≡ x) × (r < 256) ⌝ }
-{
-    x as u32
-}
-
-// The column of four bytes.
-fn column(a: u8, b: u8, c: u8, d: u8) -> u32
-    ensures { λ r. ⌜ r ≡ column a b c d ⌝ }
-{
-    as_number(a) * 16777216 + as_number(b) * 65536 + as_number(c) * 256 + as_number(d)
-}
-
 // A column turned up by one row.
 fn turned_up(w: u32) -> u32
     ensures { λ r. ⌜ r ≡ turnedUp w ⌝ }
@@ -76,13 +66,14 @@ fn doubled(w: u32) -> u32
     ((w & 0x7f7f7f7f) << 1) ^ (((w & 0x80808080) >> 7) * 27)
 }
 
-// MixColumns of a column: a byte is 2 of itself, 3 of the one below it, and the two below that.
+// MixColumns of a column: a byte becomes 2 of itself and the one below it, and the three below it. 2(a ⊕ b) ⊕ b is 2a ⊕ 3b.
 fn mixed_column(w: u32) -> u32
     ensures { λ r. ⌜ r ≡ mixedColumn w ⌝ }
 {
-    let d = doubled(w);
-    let two_below = turned_up(w ^ turned_up(w));
-    d ^ turned_up(d ^ w ^ two_below)
+    let pairs = w ^ turned_up(w);
+    let d = doubled(pairs);
+    let two_below = turned_up(pairs);
+    d ^ turned_up(w ^ two_below)
 }
 
 // SubBytes and ShiftRows for one column: a row of each of four.
@@ -98,20 +89,13 @@ fn shifted_column(t: &[u8; 256], a: u32, b: u32, c: u32, d: u32) -> u32
     let s1 = sub(t, r1);
     let s2 = sub(t, r2);
     let s3 = sub(t, r3);
-    column(s0, s1, s2, s3)
-}
-
-// The sum of two states.
-fn add(a: [u32; 4], b: [u32; 4]) -> [u32; 4]
-    ensures { λ r. ⌜ stateBytes r ≡ stateBytes a ⊕ stateBytes b ⌝ }
-{
-    [a[0] ^ b[0], a[1] ^ b[1], a[2] ^ b[2], a[3] ^ b[3]]
+    columns::column(s0, s1, s2, s3)
 }
 
 // One round: SubBytes, ShiftRows, MixColumns, and the key added.
-fn aesenc(t: &[u8; 256], s: [u32; 4], k: [u32; 4]) -> [u32; 4]
+pub fn aesenc(t: &[u8; 256], s: Columns, k: Columns) -> Columns
     requires { ⌜ now t ≡ tab 256 sbox ⌝ }
-    ensures { λ r. ⌜ stateBytes r ≡ aesenc (stateBytes s) (stateBytes k) ⌝ }
+    ensures { λ r. ⌜ r ≡ columnsOf (aesenc (blockOf s) (blockOf k)) ⌝ }
 {
     let a = s[0];
     let b = s[1];
@@ -125,88 +109,39 @@ fn aesenc(t: &[u8; 256], s: [u32; 4], k: [u32; 4]) -> [u32; 4]
     let m1 = mixed_column(s1);
     let m2 = mixed_column(s2);
     let m3 = mixed_column(s3);
-    add([m0, m1, m2, m3], k)
-}
-
-// The column of a block whose row 0 is byte n.
-fn column_at(x: [u8; 16], n: usize) -> u32
-    requires { ⌜ n ≤ 12 ⌝ }
-    ensures { λ r. ⌜ r ≡ columnAt x n ⌝ }
-{
-    column(x[n], x[n + 1], x[n + 2], x[n + 3])
-}
-
-// The state of a block.
-fn columns(x: [u8; 16]) -> [u32; 4]
-    ensures { λ r. ⌜ stateBytes r ≡ x ⌝ }
-{
-    let a = column_at(x, 0);
-    let b = column_at(x, 4);
-    let c = column_at(x, 8);
-    let d = column_at(x, 12);
-    [a, b, c, d]
-}
-
-// The block of a state.
-fn state_bytes(s: [u32; 4]) -> [u8; 16]
-    ensures { λ r. ⌜ r ≡ stateBytes s ⌝ }
-{
-    let a = s[0];
-    let b = s[1];
-    let c = s[2];
-    let d = s[3];
-    [
-        (a / 16777216 % 256) as u8,
-        (a / 65536 % 256) as u8,
-        (a / 256 % 256) as u8,
-        (a % 256) as u8,
-        (b / 16777216 % 256) as u8,
-        (b / 65536 % 256) as u8,
-        (b / 256 % 256) as u8,
-        (b % 256) as u8,
-        (c / 16777216 % 256) as u8,
-        (c / 65536 % 256) as u8,
-        (c / 256 % 256) as u8,
-        (c % 256) as u8,
-        (d / 16777216 % 256) as u8,
-        (d / 65536 % 256) as u8,
-        (d / 256 % 256) as u8,
-        (d % 256) as u8,
-    ]
+    columns::xor([m0, m1, m2, m3], k)
 }
 
 // The first key added, and a round for each that follows it. AES4 and AES10 share this one loop, so that the compiler puts the round into
-// its body and the state stays in registers.
-fn rounds(k: &[[u8; 16]], x: [u8; 16]) -> [u8; 16]
+// its body and the state stays in registers. The keys are columns already: a caller has them for many blocks.
+fn rounds(k: &[Columns], x: [u8; 16]) -> [u8; 16]
     requires { ⌜ 1 ≤ length (now k) ⌝ }
-    ensures { λ r. ⌜ r ≡ AES (now (k .entry)) x ⌝ }
+    ensures { λ r. ⌜ r ≡ AES (map blockOf (now (k .entry))) x ⌝ }
 {
     let t = sboxes();
-    let k0 = k[0];
-    let first = columns(k0);
-    let text = columns(x);
-    let mut s = add(text, first);
+    let first = k[0];
+    let text = columns::of_block(x);
+    let mut s = columns::xor(text, first);
     let mut i: usize = 1;
     while i < k.len() {
-        let ki = k[i];
-        let key = columns(ki);
+        let key = k[i];
         let y = aesenc(&t, s, key);
         s = y;
         i += 1;
     }
-    state_bytes(s)
+    columns::to_block(s)
 }
 
 // AES4 under five keys.
-pub fn aes4(k: [[u8; 16]; 5], x: [u8; 16]) -> [u8; 16]
-    ensures { λ r. ⌜ r ≡ AES4 k x ⌝ }
+pub fn aes4(k: [Columns; 5], x: [u8; 16]) -> [u8; 16]
+    ensures { λ r. ⌜ r ≡ AES4 (map blockOf k) x ⌝ }
 {
     rounds(&k, x)
 }
 
 // AES10 under eleven keys.
-pub fn aes10(k: [[u8; 16]; 11], x: [u8; 16]) -> [u8; 16]
-    ensures { λ r. ⌜ r ≡ AES10 k x ⌝ }
+pub fn aes10(k: [Columns; 11], x: [u8; 16]) -> [u8; 16]
+    ensures { λ r. ⌜ r ≡ AES10 (map blockOf k) x ⌝ }
 {
     rounds(&k, x)
 }

@@ -16,11 +16,10 @@ use Rattle.answer.specs.declared.AnswerAt.{AnswerAt}
 use Rattle.paper.specs.DayFile.{Listing}
 use Rattle.day.specs.declared.Listed.{Listed}
 use Rattle.day.specs.Lists.{listingAs}
+use Rattle.columns.specs.Columns.{columnsOf}
 use Rattle.tbc.specs.declared.Key.{Key}
-use Rattle.tbc.specs.declared.Base.{Base}
-use Rattle.tbc.specs.Meaning.{blocks, base, multiples, Kept}
+use Rattle.tbc.specs.Meaning.{blocks, multiples, Kept}
 use Rattle.block.proofs.xor.Reads as block-xor
-use Rattle.block.proofs.double.Reads as block-double
 use Rattle.block.proofs.pad.Reads as block-pad
 use Rattle.block.proofs.number.Reads as block-number
 use Rattle.block.proofs.load.Reads as block-load
@@ -32,6 +31,13 @@ use Rattle.numbers.proofs.two.Reads as numbers-two
 use Rattle.numbers.proofs.four.Reads as numbers-four
 use Rattle.numbers.proofs.put_two.Reads as numbers-put-two
 use Rattle.numbers.proofs.put_four.Reads as numbers-put-four
+use Rattle.columns.proofs.column.Reads as columns-column
+use Rattle.columns.proofs.of_block.Reads as columns-of-block
+use Rattle.columns.proofs.to_block.Reads as columns-to-block
+use Rattle.columns.proofs.xor.Reads as columns-xor
+use Rattle.columns.proofs.double.Reads as columns-double
+use Rattle.aes.proofs.sboxes.Reads as aes-sboxes
+use Rattle.aes.proofs.aesenc.Reads as aes-aesenc
 use Rattle.aes.proofs.aes4.Reads as aes-aes4
 use Rattle.aes.proofs.aes10.Reads as aes-aes10
 use Rattle.tbc.proofs.key_of.Reads as tbc-key-of
@@ -121,24 +127,17 @@ one-listing z w X Y o p q =
 one-key : (z w : Key) (k : figure6.Key) → blocks z ≡ k → Kept z → blocks w ≡ k → Kept w → z ≡ w
 one-key z w k p y q x =
     let same : blocks z ≡ blocks w = one p q in
-    let I2 = y .I2 ∙ ap (λ (b : figure6.Key). 2 · b .I) same ∙ sym (x .I2) in
-    let J2 = y .J2 ∙ ap (λ (b : figure6.Key). 2 · b .J) same ∙ sym (x .J2) in
+    let I2 = y .I2 ∙ ap (λ (b : figure6.Key). columnsOf (2 · b .I)) same ∙ sym (x .I2) in
+    let J2 = y .J2 ∙ ap (λ (b : figure6.Key). columnsOf (2 · b .J)) same ∙ sym (x .J2) in
     let Ls = y .Ls ∙ ap (λ (b : figure6.Key). multiples (b .L)) same ∙ sym (x .Ls) in
     let Js = y .Js ∙ ap (λ (b : figure6.Key). multiples (b .J)) same ∙ sym (x .Js) in
     let Rows = y .Rows ∙ ap (λ (b : figure6.Key). multiples (8 · b .J)) same ∙ sym (x .Rows) in
     λ i. record { i = same i .I; j = same i .J; l = same i .L; i2 = I2 i; j2 = J2 i; ls = Ls i; js = Js i; rows = Rows i }
 
--- a base by its blocks
-one-base : (z w : Base) (k : figure6.Key) → base z ≡ k → base w ≡ k → z ≡ w
-one-base z w k p q = ap (λ (b : figure6.Key). record { i = b .I; j = b .J; l = b .L }) (one p q)
-
 -- ---- Blocks: `block`
 
 pub block-xor-determined : (κs : _) (a : _) (z w : _) (e f : _) → block-xor.Learnt κs a z e → block-xor.Learnt κs a w f → z ≡ w
 block-xor-determined κs a z w e f p q = one p q
-
-pub block-double-determined : (κs : _) (a : _) (z w : _) (e f : _) → block-double.Learnt κs a z e → block-double.Learnt κs a w f → z ≡ w
-block-double-determined κs a z w e f p q = one p q
 
 pub block-pad-determined : (κs : _) (a : _) (z w : _) (e f : _) → block-pad.Learnt κs a z e → block-pad.Learnt κs a w f → z ≡ w
 block-pad-determined κs a z w e f p q = one p q
@@ -175,7 +174,30 @@ numbers-put-two-determined κs a z w e f p q = one p q
 pub numbers-put-four-determined : (κs : _) (a : _) (z w : _) (e f : _) → numbers-put-four.Learnt κs a z e → numbers-put-four.Learnt κs a w f → now (e .0) ≡ now (f .0)
 numbers-put-four-determined κs a z w e f p q = one p q
 
+-- ---- Blocks of columns: `columns`
+
+pub columns-column-determined : (κs : _) (a : _) (z w : _) (e f : _) → columns-column.Learnt κs a z e → columns-column.Learnt κs a w f → z ≡ w
+columns-column-determined κs a z w e f p q = one p q
+
+pub columns-of-block-determined : (κs : _) (a : _) (z w : _) (e f : _) → columns-of-block.Learnt κs a z e → columns-of-block.Learnt κs a w f → z ≡ w
+columns-of-block-determined κs a z w e f p q = one p q
+
+pub columns-to-block-determined : (κs : _) (a : _) (z w : _) (e f : _) → columns-to-block.Learnt κs a z e → columns-to-block.Learnt κs a w f → z ≡ w
+columns-to-block-determined κs a z w e f p q = one p q
+
+pub columns-xor-determined : (κs : _) (a : _) (z w : _) (e f : _) → columns-xor.Learnt κs a z e → columns-xor.Learnt κs a w f → z ≡ w
+columns-xor-determined κs a z w e f p q = one p q
+
+pub columns-double-determined : (κs : _) (a : _) (z w : _) (e f : _) → columns-double.Learnt κs a z e → columns-double.Learnt κs a w f → z ≡ w
+columns-double-determined κs a z w e f p q = one p q
+
 -- ---- The AES round: `aes`
+
+pub aes-sboxes-determined : (κs : _) (a : _) (z w : _) (e f : _) → aes-sboxes.Learnt κs a z e → aes-sboxes.Learnt κs a w f → z ≡ w
+aes-sboxes-determined κs a z w e f p q = one p q
+
+pub aes-aesenc-determined : (κs : _) (a : _) (z w : _) (e f : _) → aes-aesenc.Learnt κs a z e → aes-aesenc.Learnt κs a w f → z ≡ w
+aes-aesenc-determined κs a z w e f p q = one p q
 
 pub aes-aes4-determined : (κs : _) (a : _) (z w : _) (e f : _) → aes-aes4.Learnt κs a z e → aes-aes4.Learnt κs a w f → z ≡ w
 aes-aes4-determined κs a z w e f p q = one p q
@@ -189,7 +211,7 @@ pub tbc-key-of-determined : (κs : _) (a : _) (z w : _) (e f : _) → tbc-key-of
 tbc-key-of-determined κs a z w e f p q = one-key z w _ (p .0) (p .1) (q .0) (q .1)
 
 pub tbc-key-base-determined : (κs : _) (a : _) (z w : _) (e f : _) → tbc-key-base.Learnt κs a z e → tbc-key-base.Learnt κs a w f → z ≡ w
-tbc-key-base-determined κs a z w e f p q = one-base z w _ p q
+tbc-key-base-determined κs a z w e f p q = one p q
 
 pub tbc-key-multiples-determined : (κs : _) (a : _) (z w : _) (e f : _) → tbc-key-multiples.Learnt κs a z e → tbc-key-multiples.Learnt κs a w f → z ≡ w
 tbc-key-multiples-determined κs a z w e f p q = one p q

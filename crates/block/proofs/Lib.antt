@@ -1,4 +1,3 @@
 pub mod Arrays
-mod Turned
 mod Same
 mod Stores

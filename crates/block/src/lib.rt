@@ -1,11 +1,10 @@
-// Blocks of 16 bytes: sums, doubles, padding, numbers, and blocks in a slice. And bytes in a slice: copied, cleared, compared.
+// Blocks of 16 bytes: sums, padding, numbers, and blocks in a slice. And bytes in a slice: copied, cleared, compared.
 // The AEZ paper's section 7, NOTATION, and document 01, "Blocks".
 ghost use mathlib.Core.List.{_++_};
 ghost use mathlib.Core.Path.{_≡_};
 ghost use Prim.Native.Nat.{_+_, _<_, _≤_};
 ghost use lib.ListN.{length, take, drop, replicate};
 ghost use Rattle.paper.specs.Strings.{same, _⊕_, pad10*, number};
-ghost use Rattle.paper.specs.Section7.{double};
 
 // a ⊕ b.
 pub fn xor(a: [u8; 16], b: [u8; 16]) -> [u8; 16]
@@ -17,21 +16,6 @@ pub fn xor(a: [u8; 16], b: [u8; 16]) -> [u8; 16]
         r[i] = a[i] ^ b[i];
         i += 1;
     }
-    r
-}
-
-// 2·x: each byte shifted left with the first bit of the next, the last byte's next being the first. Where the bit that came round was 1,
-// what is left of 135 goes into the last byte. So every byte is made alike, which the compiler turns into vector code.
-pub fn double(x: [u8; 16]) -> [u8; 16]
-    ensures { λ r. ⌜ r ≡ double x ⌝ }
-{
-    let mut r = [0u8; 16];
-    let mut i: usize = 0;
-    while i < 16 {
-        r[i] = (x[i] << 1) ^ (x[(i + 1) % 16] >> 7);
-        i += 1;
-    }
-    r[15] = r[15] ^ ((x[0] >> 7) * 134);
     r
 }
 

@@ -1,11 +1,12 @@
 -- Blocks and columns are each other's: there and back is the block again, and back and there the columns.
 use mathlib.Core.List.{List, [], _∷_}
-use mathlib.Core.Path.{_≡_, refl, ap, sym, _∙_}
+use mathlib.Core.Path.{_≡_, refl, ap, ap₂, sym, _∙_}
 use Prim.Native.Nat.{ℕ, _+_, _<_}
 use native.Mathlib.Nat.{zero-lt-suc}
 use lib.Bits.{bitXor, xor-lt}
 use lib.ListN.{getD}
 use Rattle.paper.specs.Strings.{Bytes, Block, Digits, zip, _⊕_}
+use Rattle.paper.specs.Section7.{double}
 use Rattle.laws.proofs.Digits.{below-getD, append-digits}
 use Rattle.laws.proofs.Tables.{tab-entries}
 use Rattle.columns.specs.Columns.{row0, row1, row2, row3, column, columnAt, columnsOf, blockOf}
@@ -81,3 +82,14 @@ columns-sum s t p q =
   where
     low : (k : ℕ) → bitXor (getD s k 0) (getD t k 0) < 4294967296
     low k = xor-lt 32 (getD s k 0) (getD t k 0) (column-at p k) (column-at q k)
+
+-- ---- columns that are those of a known block: the block they make, and what a sum and a double of them are
+
+pub made : {s : List ℕ} {X : Bytes} → Block X → s ≡ columnsOf X → blockOf s ≡ X
+made p e = ap blockOf e ∙ columns-block p
+
+pub sum-of : {s t r : List ℕ} {X Y : Bytes} → Block X → Block Y → s ≡ columnsOf X → t ≡ columnsOf Y → r ≡ columnsOf (blockOf s ⊕ blockOf t) → r ≡ columnsOf (X ⊕ Y)
+sum-of p q e f g = g ∙ ap₂ (λ (A B : Bytes). columnsOf (A ⊕ B)) (made p e) (made q f)
+
+pub double-of : {s r : List ℕ} {X : Bytes} → Block X → s ≡ columnsOf X → r ≡ columnsOf (double (blockOf s)) → r ≡ columnsOf (double X)
+double-of p e g = g ∙ ap (λ (A : Bytes). columnsOf (double A)) (made p e)

@@ -1,5 +1,6 @@
 // AEZ-hash and AEZ-prf of Figure 6 of the AEZ paper: what a record is bound to, and the sealed string of the empty text.
 use answer::StretchBits;
+use columns::Columns;
 use header::Place;
 use header::Reading;
 ghost use mathlib.Core.Path.{_≡_};
@@ -9,14 +10,15 @@ ghost use Rattle.paper.specs.Strings.{_⊕_, pad10*, sum};
 ghost use Rattle.paper.specs.Section7.{_·_};
 ghost use Rattle.paper.specs.Figure6.{row, E, blockAt, hashString, prfFrom};
 ghost use Rattle.paper.specs.Document01.{readHeader};
+ghost use Rattle.columns.specs.Columns.{columnsOf};
 ghost use Rattle.tbc.specs.Meaning.{blocks, base, Kept, OfJ};
 ghost use Rattle.hash.specs.Delta.{deltaOf};
 ghost use Rattle.hash.specs.Fitted.{fitted};
 
 // Line 304: the sum over the full blocks of the i-th string. m is 0·J to 7·J and mask the row's multiple of J; the power of L is carried
 // from block to block.
-fn full_blocks(k: tbc::Base, m: &[u8; 128], mask: [u8; 16], i: u32, t: &[u8]) -> [u8; 16]
-    requires { ⌜ (1 ≤ i) × (i ≤ 17) × (length (now t) ≤ 1024) × (OfJ k (now m)) × (mask ≡ (i * 8) · base k .J) ⌝ }
+fn full_blocks(k: tbc::Base, m: &[u32; 32], mask: Columns, i: u32, t: &[u8]) -> [u8; 16]
+    requires { ⌜ (1 ≤ i) × (i ≤ 17) × (length (now t) ≤ 1024) × (OfJ k (now m)) × (mask ≡ columnsOf ((i * 8) · base k .J)) ⌝ }
     ensures { λ r. ⌜ r ≡ sum (length (now (t .entry)) / 16) (λ j. E (base k) (row (2 + i)) j (blockAt (now (t .entry)) j)) ⌝ }
 {
     let pairs = tbc::Pair::HASH.string(i);
@@ -39,8 +41,8 @@ fn full_blocks(k: tbc::Base, m: &[u8; 128], mask: [u8; 16], i: u32, t: &[u8]) ->
 }
 
 // Line 306: a sum, and the block that is short or empty.
-fn with_short(k: tbc::Base, mask: [u8; 16], i: u32, full: [u8; 16], last: &[u8]) -> [u8; 16]
-    requires { ⌜ (1 ≤ i) × (i ≤ 17) × (length (now last) < 16) × (mask ≡ (i * 8) · base k .J) ⌝ }
+fn with_short(k: tbc::Base, mask: Columns, i: u32, full: [u8; 16], last: &[u8]) -> [u8; 16]
+    requires { ⌜ (1 ≤ i) × (i ≤ 17) × (length (now last) < 16) × (mask ≡ columnsOf ((i * 8) · base k .J)) ⌝ }
     ensures { λ r. ⌜ r ≡ full ⊕ E (base k) (row (2 + i)) 0 (pad10* (now (last .entry))) ⌝ }
 {
     let p = tbc::Pair::HASH.string(i);

@@ -103,7 +103,7 @@ mix-block s p = append-digits (column 0) (append-digits (column 1) (append-digit
 
 -- ---- rounds
 
-aesenc-block : {X K : Bytes} → Block X → Block K → Block (aesenc X K)
+pub aesenc-block : {X K : Bytes} → Block X → Block K → Block (aesenc X K)
 unfolding aesenc SubBytes
 aesenc-block {X} p q = ⊕-digits (mix-block (ShiftRows (map sbox X)) (shift-rows (map sbox X) (sub-bytes X))) q (omega arith)
 

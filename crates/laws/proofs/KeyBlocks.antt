@@ -45,7 +45,7 @@ pub times-block : (n : ℕ) {X : Bytes} → Block X → Block (n · X)
 unfolding _·_
 times-block n p = bits-block n n p
 
-twoTo-block : (e : ℕ) {X : Bytes} → Block X → Block (twoTo e X)
+pub twoTo-block : (e : ℕ) {X : Bytes} → Block X → Block (twoTo e X)
 unfolding twoTo
 twoTo-block zero p = p
 twoTo-block (suc e) p = double-block (twoTo-block e p)

@@ -2,38 +2,21 @@
 use mathlib.Core.Path.{_≡_, refl, ap, ap₂, sym, _∙_}
 use Prim.Native.Nat.{ℕ, zero, suc, _+_, _*_, _/_, _%_, _<_}
 use native.Mathlib.Decide.{decLt}
-use native.Mathlib.Nat.{add-zero, zero-lt-suc}
+use native.Mathlib.Nat.{zero-lt-suc}
 use native.Mathlib.Omega.{arith}
 use lib.Arith.{bin-ind}
-use lib.Bits.{bitXor, xor-block, xor-mod, xor-shr}
+use lib.Bits.{bitXor, xor-shr}
 use lib.ListN.{length, getD}
 use lib.Seq.{ext-getD}
 use Rattle.paper.specs.Strings.{Bytes, Block, _⊕_}
 use Rattle.paper.specs.Section7.{double, _·_}
-use Rattle.laws.proofs.Xor.{xor-assoc, xor-left-comm}
+use Rattle.laws.proofs.Xor.{xor-exchange, shift-xor, bit-times}
 use Rattle.laws.proofs.Strings.{⊕-assoc, ⊕-zeros, getD-⊕}
 use Rattle.laws.proofs.Digits.{⊕-block, below-getD}
 use Rattle.laws.proofs.Multiples.{length-double, double-at, double-at-15, double-zeros, times-zero, times-one, times-even, times-odd}
 use Rattle.laws.proofs.KeyBlocks.{double-block, times-block}
 
 -- ---- 2·(X ⊕ Y) = 2·X ⊕ 2·Y
-
--- a shift of a byte by one bit
-shift-xor : (a b : ℕ) → bitXor a b * 2 % 256 ≡ bitXor (a * 2 % 256) (b * 2 % 256)
-shift-xor a b =
-    let up : bitXor a b * 2 ≡ bitXor (a * 2) (b * 2) = sym (simp add-zero at (xor-block 1 a b 0 0 (zero-lt-suc 1) (zero-lt-suc 1))) in
-    ap (λ (n : ℕ). n % 256) up ∙ xor-mod (a * 2) (b * 2) 8
-
--- two bits times 135
-bit-135 : (t u : ℕ) → t < 2 → u < 2 → bitXor t u * 135 ≡ bitXor (t * 135) (u * 135)
-bit-135 zero u h g = refl
-bit-135 (suc zero) zero h g = refl
-bit-135 (suc zero) (suc zero) h g = refl
-bit-135 (suc zero) (suc (suc u)) h g = absurd (omega arith)
-bit-135 (suc (suc t)) u h g = absurd (omega arith)
-
-four : (a b c d : ℕ) → bitXor (bitXor a b) (bitXor c d) ≡ bitXor (bitXor a c) (bitXor b d)
-four a b c d = xor-assoc a b (bitXor c d) ∙ ap (bitXor a) (xor-left-comm b c d) ∙ sym (xor-assoc a c (bitXor b d))
 
 module _ (X Y : Bytes) (p : Block X) (q : Block Y) where
   entry : (i : ℕ) → i < 16 → getD (X ⊕ Y) i 0 ≡ bitXor (getD X i 0) (getD Y i 0)
@@ -51,8 +34,8 @@ module _ (X Y : Bytes) (p : Block X) (q : Block Y) where
       ∙ ap₂ (λ (a t : ℕ). bitXor (a * 2 % 256) (t / 128 * 135)) (entry 15 (omega arith)) (entry 0 (omega arith))
       ∙ ap₂ bitXor (shift-xor (getD X 15 0) (getD Y 15 0))
       (ap (λ (t : ℕ). t * 135) (xor-shr (getD X 0 0) (getD Y 0 0) 7)
-      ∙ bit-135 (top X) (top Y) (omega (arith, below-getD 256 0 X (zero-lt-suc 255) (p .low))) (omega (arith, below-getD 256 0 Y (zero-lt-suc 255) (q .low))))
-      ∙ four (getD X 15 0 * 2 % 256) (getD Y 15 0 * 2 % 256) (top X * 135) (top Y * 135)
+      ∙ bit-times 135 (top X) (top Y) (omega (arith, below-getD 256 0 X (zero-lt-suc 255) (p .low))) (omega (arith, below-getD 256 0 Y (zero-lt-suc 255) (q .low))))
+      ∙ xor-exchange (getD X 15 0 * 2 % 256) (getD Y 15 0 * 2 % 256) (top X * 135) (top Y * 135)
       ∙ sym (doubles 15 (omega arith) ∙ ap₂ bitXor (double-at-15 X p) (double-at-15 Y q))
 
   byte-before : (i : ℕ) → i < 15 → getD (double (X ⊕ Y)) i 0 ≡ getD (double X ⊕ double Y) i 0
@@ -60,7 +43,7 @@ module _ (X Y : Bytes) (p : Block X) (q : Block Y) where
       double-at (X ⊕ Y) (⊕-block p q) i h
       ∙ ap₂ (λ (a t : ℕ). bitXor (a * 2 % 256) (t / 128)) (entry i (omega arith)) (entry (i + 1) (omega arith))
       ∙ ap₂ bitXor (shift-xor (getD X i 0) (getD Y i 0)) (xor-shr (getD X (i + 1) 0) (getD Y (i + 1) 0) 7)
-      ∙ four (getD X i 0 * 2 % 256) (getD Y i 0 * 2 % 256) (getD X (i + 1) 0 / 128) (getD Y (i + 1) 0 / 128)
+      ∙ xor-exchange (getD X i 0 * 2 % 256) (getD Y i 0 * 2 % 256) (getD X (i + 1) 0 / 128) (getD Y (i + 1) 0 / 128)
       ∙ sym (doubles i (omega arith) ∙ ap₂ bitXor (double-at X p i h) (double-at Y q i h))
 
   long : length (double (X ⊕ Y)) ≡ 16

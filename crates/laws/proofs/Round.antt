@@ -1,17 +1,19 @@
 -- The AES round: multiples of bytes with no branch, MixColumns on all columns at once, and rounds one after the other.
 use mathlib.Core.List.{List, [], _∷_, _++_, map}
-use mathlib.Core.Path.{_≡_, refl, ap, sym, _∙_}
+use mathlib.Core.Path.{_≡_, refl, ap, ap₂, sym, _∙_}
 use Prim.Native.Nat.{ℕ, zero, suc, _+_, _-_, _*_, _/_, _%_, _≤_, _<_}
 use native.Mathlib.Omega.{arith}
-use lib.Bits.{bitXor, xor-comm, xor-zero-r}
+use lib.Bits.{bitXor, xor-comm, xor-zero-r, xor-lt, xor-shr}
 use lib.Dec.{eqb}
 use lib.ListN.{length, getD, take, drop}
 use lib.Seq.{take-suc, take-all}
-use Rattle.paper.specs.Strings.{Bytes, if_then_else_, tab, zip, _⊕_}
+use Rattle.paper.specs.Strings.{Bytes, Block, if_then_else_, tab, zip, _⊕_}
 use Rattle.paper.specs.Fips197.{xtime, _•_, mulBits, at, state, MixColumns}
-use Rattle.paper.specs.Section7.{aesenc, rounds, AES}
+use Rattle.paper.specs.Section7.{zeros, aesenc, rounds, AES}
+use Rattle.laws.proofs.Digits.{⊕-block}
+use Rattle.laws.proofs.Strings.{⊕-zeros}
 use Rattle.laws.proofs.Tables.{tab-entries}
-use Rattle.laws.proofs.Xor.{xor-assoc, xor-left-comm}
+use Rattle.laws.proofs.Xor.{xor-assoc, xor-left-comm, xor-exchange, shift-xor, bit-times}
 
 -- ---- multiples of bytes
 
@@ -23,6 +25,14 @@ by-top (suc (suc t)) v h = absurd (omega arith)
 -- the bit that is lost, times 1b, is what xtime adds
 pub xtime-mask : (x : ℕ) → x < 256 → xtime x ≡ bitXor (x * 2 % 256) (x / 128 * 27)
 xtime-mask x h = by-top (x / 128) (x * 2 % 256) (omega arith)
+
+-- the double of a sum is the sum of the doubles
+pub xtime-xor : (a b : ℕ) → a < 256 → b < 256 → xtime (bitXor a b) ≡ bitXor (xtime a) (xtime b)
+xtime-xor a b h g =
+    xtime-mask (bitXor a b) (xor-lt 8 a b h g)
+    ∙ ap₂ bitXor (shift-xor a b) (ap (λ (t : ℕ). t * 27) (xor-shr a b 7) ∙ bit-times 27 (a / 128) (b / 128) (omega arith) (omega arith))
+    ∙ xor-exchange (a * 2 % 256) (b * 2 % 256) (a / 128 * 27) (b / 128 * 27)
+    ∙ sym (ap₂ bitXor (xtime-mask a h) (xtime-mask b g))
 
 -- ---- MixColumns
 
@@ -92,21 +102,26 @@ unfolding rounds
 rounds-last [] K X = refl
 rounds-last (K1 ∷ Ks) K X = rounds-last Ks K (aesenc X K1)
 
--- round i, under key i of k: the keys before it have had theirs
-pub rounds-more : (i : ℕ) (k : List Bytes) (X : Bytes) → 1 ≤ i → i < length k
-    → rounds (take (i + 1 - 1) (drop 1 k)) X ≡ aesenc (rounds (take (i - 1) (drop 1 k)) X) (getD k i [])
-rounds-more zero k X h g = absurd (omega arith)
-rounds-more (suc i) [] X h g = absurd (omega arith)
-rounds-more (suc i) (K ∷ k) X h g =
+-- round i, under key i of k: the keys before it have had theirs. What would stand past the end, D, is never read
+pub rounds-more : (i : ℕ) (k : List Bytes) (D X : Bytes) → 1 ≤ i → i < length k
+    → rounds (take (i + 1 - 1) (drop 1 k)) X ≡ aesenc (rounds (take (i - 1) (drop 1 k)) X) (getD k i D)
+rounds-more zero k D X h g = absurd (omega arith)
+rounds-more (suc i) [] D X h g = absurd (omega arith)
+rounds-more (suc i) (K ∷ k) D X h g =
     let next : suc i + 1 - 1 ≡ suc i = omega arith in
     let this : i ≡ suc i - 1 = omega arith in
     ap (λ (n : ℕ). rounds (take n k) X) next
-    ∙ ap (λ (l : List Bytes). rounds l X) (take-suc k i [] (omega arith))
-    ∙ rounds-last (take i k) (getD k i []) X
-    ∙ ap (λ (n : ℕ). aesenc (rounds (take n k) X) (getD k i [])) this
+    ∙ ap (λ (l : List Bytes). rounds l X) (take-suc k i D (omega arith))
+    ∙ rounds-last (take i k) (getD k i D) X
+    ∙ ap (λ (n : ℕ). aesenc (rounds (take n k) X) (getD k i D)) this
 
 -- AES under n + 1 keys: the first is added, and n rounds follow
-pub AES-rounds : (n : ℕ) (k : List Bytes) (X : Bytes) → length k ≡ suc n → AES k X ≡ rounds (take n (drop 1 k)) (X ⊕ getD k 0 [])
+pub AES-rounds : (n : ℕ) (k : List Bytes) (D X : Bytes) → length k ≡ suc n → AES k X ≡ rounds (take n (drop 1 k)) (X ⊕ getD k 0 D)
 unfolding AES
-AES-rounds n [] X e = absurd (omega arith)
-AES-rounds n (K ∷ k) X e = ap (λ (l : List Bytes). rounds l (X ⊕ K)) (sym (take-all n k (omega arith)))
+AES-rounds n [] D X e = absurd (omega arith)
+AES-rounds n (K ∷ k) D X e = ap (λ (l : List Bytes). rounds l (X ⊕ K)) (sym (take-all n k (omega arith)))
+
+-- a mask may stand for the zero key that is added with it
+pub AES-mask : (Ks : List Bytes) {M X : Bytes} → Block X → Block M → AES (M ∷ Ks) X ≡ AES (zeros ∷ Ks) (X ⊕ M)
+unfolding AES
+AES-mask Ks {M} {X} p q = ap (rounds Ks) (sym (⊕-zeros 16 (X ⊕ M) (omega (arith, ⊕-block p q .len))))

@@ -1,10 +1,10 @@
 -- The exclusive or of numbers: the laws that the kit's lib.Bits lacks.
 use mathlib.Core.Path.{_≡_, refl, ap, ap₂, sym, _∙_}
 use Prim.Native.Nat.{ℕ, zero, suc, _+_, _*_, _/_, _%_, _<_}
-use native.Mathlib.Nat.{mod-lt, zero-lt-suc}
+use native.Mathlib.Nat.{add-zero, zero-mul, mod-lt, zero-lt-suc}
 use native.Mathlib.Omega.{arith}
 use lib.Arith.{bin-ind}
-use lib.Bits.{bitXor, differ, xor-step, xor-comm, xor-self, xor-zero-r, xor-shr, xor-mod}
+use lib.Bits.{bitXor, differ, xor-step, xor-block, xor-comm, xor-self, xor-zero-l, xor-zero-r, xor-shr, xor-mod}
 
 bit : (n : ℕ) → n % 2 < 2
 bit n = mod-lt n (zero-lt-suc 1)
@@ -46,3 +46,21 @@ xor-left-comm a b c = sym (xor-assoc a b c) ∙ ap (λ (x : ℕ). bitXor x c) (x
 
 pub xor-cancel : (a b : ℕ) → bitXor (bitXor a b) b ≡ a
 xor-cancel a b = xor-assoc a b b ∙ ap (bitXor a) (xor-self b) ∙ xor-zero-r a
+
+-- of two sums, the second of the one and the first of the other change places
+pub xor-exchange : (a b c d : ℕ) → bitXor (bitXor a b) (bitXor c d) ≡ bitXor (bitXor a c) (bitXor b d)
+xor-exchange a b c d = xor-assoc a b (bitXor c d) ∙ ap (bitXor a) (xor-left-comm b c d) ∙ sym (xor-assoc a c (bitXor b d))
+
+-- a shift of a byte by one bit
+pub shift-xor : (a b : ℕ) → bitXor a b * 2 % 256 ≡ bitXor (a * 2 % 256) (b * 2 % 256)
+shift-xor a b =
+    let up : bitXor a b * 2 ≡ bitXor (a * 2) (b * 2) = sym (simp add-zero at (xor-block 1 a b 0 0 (zero-lt-suc 1) (zero-lt-suc 1))) in
+    ap (λ (n : ℕ). n % 256) up ∙ xor-mod (a * 2) (b * 2) 8
+
+-- two bits times a number
+pub bit-times : (n t u : ℕ) → t < 2 → u < 2 → bitXor t u * n ≡ bitXor (t * n) (u * n)
+bit-times n zero u h g = simp (xor-zero-l, zero-mul)
+bit-times n (suc zero) zero h g = simp (xor-zero-r, zero-mul)
+bit-times n (suc zero) (suc zero) h g = simp (xor-self, zero-mul)
+bit-times n (suc zero) (suc (suc u)) h g = absurd (omega arith)
+bit-times n (suc (suc t)) u h g = absurd (omega arith)

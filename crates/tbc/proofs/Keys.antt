@@ -1,19 +1,20 @@
--- What a function is told of a parameter that is a key, or the base of one: its parts are blocks. And what it takes out of a key fits together.
+-- What a function is told of a parameter that is a key: its parts are blocks, as those of a base always are. And what it takes out of a key
+-- fits together.
 use mathlib.Core.List.{List, map, map-id}
-use mathlib.Core.Path.{_≡_, subst, subst⁻¹, ap, sym, _∙_}
+use mathlib.Core.Path.{_≡_, subst, ap, sym, _∙_}
 use Prim.Native.Nat.{ℕ}
 use mir.Val.{Val}
 use denote.Laws.{Is}
 use denote.Struct.Declared.{row}
-use Rattle.paper.specs.Strings.{Bytes, Block}
+use Rattle.paper.specs.Strings.{Block}
 use Rattle.paper.specs.Figure6 as figure6
 use Rattle.laws.proofs.KeyBlocks.{KeyBytes}
 use Rattle.block.proofs.Arrays.{array-bytes}
+use Rattle.columns.proofs.Conversions.{columns-block, blockOf-block}
 use Rattle.tbc.specs.declared.Key.{Key}
 use Rattle.tbc.specs.declared.Base.{Base}
-use Rattle.tbc.specs.Meaning.{blocks, base, multiples, OfJ}
+use Rattle.tbc.specs.Meaning.{blocks, base, baseOf, multiples, OfJ}
 use Rattle.tbc.proofs.Key as key
-use Rattle.tbc.proofs.Base as base-type
 
 field-bytes : (X : List ℕ) → Block (map (λ (x : ℕ). x) X) → Block X
 field-bytes X p = subst (λ (l : List ℕ). Block l) (map-id X) p
@@ -27,19 +28,15 @@ key-bytes k vs p =
       L = field-bytes (k .l) (array-bytes 16 _ _ (g .1 .1 .0));
     }
 
-pub base-bytes : (k : Base) (vs : List Val) → Is (row base-type.the-type) k vs → KeyBytes (base k)
-base-bytes k vs p =
-    let g = p .1 .1 in
-    record {
-      I = field-bytes (k .i) (array-bytes 16 _ _ (g .0));
-      J = field-bytes (k .j) (array-bytes 16 _ _ (g .1 .0));
-      L = field-bytes (k .l) (array-bytes 16 _ _ (g .1 .1 .0));
-    }
+pub base-bytes : (k : Base) → KeyBytes (base k)
+base-bytes k = record { I = blockOf-block (k .i); J = blockOf-block (k .j); L = blockOf-block (k .l) }
+
+-- a base that was taken out of k has its blocks
+pub has-blocks : (k : Key) (vs : List Val) → Is (row key.the-type) k vs → (b : Base) → b ≡ baseOf (blocks k) → base b ≡ blocks k
+has-blocks k vs p b e =
+    let bytes = key-bytes k vs p in
+    ap base e ∙ (λ i. record { I = columns-block (bytes .I) i; J = columns-block (bytes .J) i; L = columns-block (bytes .L) i })
 
 -- the multiples of J that were taken out of k are those of its base b
-pub of-j : (k : Key) (b : Base) (m : Bytes) → base b ≡ blocks k → m ≡ multiples (k .j) → OfJ b m
+pub of-j : (k : Key) (b : Base) (m : List ℕ) → base b ≡ blocks k → m ≡ multiples (k .j) → OfJ b m
 of-j k b m e h = h ∙ ap (λ (K : figure6.Key). multiples (K .J)) (sym e)
-
--- the parts of a base that was taken out of k are blocks too
-pub taken-bytes : (k : Key) (vs : List Val) → Is (row key.the-type) k vs → (b : Base) → base b ≡ blocks k → KeyBytes (base b)
-taken-bytes k vs p b e = subst⁻¹ (λ (K : figure6.Key). KeyBytes K) e (key-bytes k vs p)

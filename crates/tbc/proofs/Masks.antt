@@ -1,18 +1,23 @@
 -- What the calls of E have in common: the row that a pair names, and the masks of lines 404 to 409.
 use mathlib.Core.Bool.{Bool, true, false}
 use mathlib.Core.Path.{_≡_, refl, ap, ap₂, subst, _∙_}
-use Prim.Native.Nat.{ℕ, zero, suc, _*_, _%_, _≤_}
+use Prim.Native.Nat.{ℕ, zero, suc, _-_, _*_, _/_, _%_, _≤_}
 use native.Mathlib.Omega.{arith}
-use lib.ListN.{take, drop}
-use Rattle.paper.specs.Strings.{Bytes, if_then_else_, _⊕_}
-use Rattle.paper.specs.Section7.{_·_}
+use mathlib.Core.List.{List, _∷_, map}
+use Rattle.paper.specs.Strings.{Bytes, Block, if_then_else_, _⊕_}
+use Rattle.paper.specs.Section7.{zeros, twoTo, _·_, AES}
 use Rattle.paper.specs.Figure6 as figure6
-use Rattle.paper.specs.Figure6.{Row, minus1, row, masked, E}
-use Rattle.laws.proofs.KeyBlocks.{KeyBytes}
-use Rattle.tbc.specs.Meaning.{base, OfJ, rowOf, Plain, Running}
+use Rattle.paper.specs.Figure6.{Row, minus1, row, E}
+use Rattle.laws.proofs.Digits.{⊕-block}
+use Rattle.laws.proofs.KeyBlocks.{times-block, twoTo-block}
+use Rattle.laws.proofs.Round.{AES-mask}
+use Rattle.columns.specs.Columns.{columnsOf, blockOf}
+use Rattle.columns.proofs.Conversions.{made, sum-of}
+use Rattle.tbc.specs.Meaning.{base, fourAt, OfJ, rowOf, Plain, Running}
 use Rattle.tbc.specs.declared.Base.{Base}
 use Rattle.tbc.specs.declared.Pair.{Pair}
 use Rattle.tbc.proofs.Eight.{kept}
+use Rattle.tbc.proofs.Keys.{base-bytes}
 
 pub row-of : (p : Pair) (n : ℕ) → p .0 ≡ false → p .1 ≡ n → rowOf p ≡ row n
 row-of p n e f = ap₂ (λ (b : Bool) (m : ℕ). if b then minus1 else row m) e f
@@ -37,14 +42,29 @@ plain-zero (suc i) j h = absurd h
 pub in-row-0 : (p : Pair) → Plain (rowOf p) (p .2) → p .0 ≡ false → p .1 ≡ 0
 in-row-0 p h e = plain-zero (p .1) (p .2) (subst (λ (r : Row). Plain r (p .2)) (row-of p (p .1) e refl) h)
 
+-- (j mod 8)·J ⊕ 2^floor((j - 1) / 8)·L, which `Figure6.masked` adds
+abbrev pub runningMask : Base → ℕ → Bytes
+runningMask k j = (j % 8) · base k .J ⊕ twoTo ((j - 1) / 8) (base k .L)
+
+pub runningMask-block : (k : Base) (j : ℕ) → Block (runningMask k j)
+runningMask-block k j = ⊕-block (times-block (j % 8) (base-bytes k .J)) (twoTo-block ((j - 1) / 8) (base-bytes k .L))
+
 -- the masks that are read, of the multiples m that are lent
-module _ (k : Base) (key : KeyBytes (base k)) (m : Bytes) (of : OfJ k m) where
+module _ (k : Base) (m : List ℕ) (of : OfJ k m) where
   -- lines 404 and 405: j·J
-  pub read : (j : ℕ) → j ≤ 7 → take 16 (drop (16 * (j % 8)) m) ≡ j · k .j
+  pub read : (j : ℕ) → j ≤ 7 → fourAt m (4 * (j % 8)) ≡ columnsOf (j · base k .J)
   read j h =
       let small : j % 8 ≡ j = omega arith in
-      kept (k .j) (key .J) m of (j % 8) (omega arith) ∙ ap (λ (n : ℕ). n · k .j) small
+      kept (base k .J) m of (j % 8) (omega arith) ∙ ap (λ (n : ℕ). columnsOf (n · base k .J)) small
 
-  -- lines 406 and 408, from what `masked` returns
-  pub mask : (p : Pair) (power x y : Bytes) → Running k p power → y ≡ x ⊕ take 16 (drop (16 * (p .2 % 8)) m) ⊕ power → y ≡ masked (base k) (p .2) x
-  mask p power x y h e = e ∙ ap₂ (λ (l w : Bytes). x ⊕ l ⊕ w) (kept (k .j) (key .J) m of (p .2 % 8) (omega arith)) (h .carried)
+  -- lines 406 and 408, from what `running_mask` returns: (j mod 8)·J ⊕ 2^floor((j - 1) / 8)·L
+  pub running-is : (p : Pair) (power r : List ℕ) → Running k p power → r ≡ columnsOf (blockOf (fourAt m (4 * (p .2 % 8))) ⊕ blockOf power)
+      → r ≡ columnsOf (runningMask k (p .2))
+  running-is p power r h e =
+      sum-of (times-block (p .2 % 8) (base-bytes k .J)) (twoTo-block ((p .2 - 1) / 8) (base-bytes k .L)) (kept (base k .J) m of (p .2 % 8) (omega arith)) (h .carried) e
+
+-- AES under keys of which the first is the mask M: the mask is added, and the zero key with it
+pub with-mask : (Ks : List Bytes) (keys : List (List ℕ)) (mask : List ℕ) (M x r : Bytes) → Block M → Block x → mask ≡ columnsOf M
+    → map blockOf keys ≡ blockOf mask ∷ Ks → r ≡ AES (map blockOf keys) x → r ≡ AES (zeros ∷ Ks) (x ⊕ M)
+with-mask Ks keys mask M x r p q e f g =
+    g ∙ ap (λ (l : List Bytes). AES l x) (f ∙ ap (λ (N : Bytes). N ∷ Ks) (made p e)) ∙ AES-mask Ks q p

@@ -1,5 +1,6 @@
 -- A pair that a call returned: E at it, and what E's functions ask of it. And that they stay within the figure's domain.
 use mathlib.Core.Bool.{Bool, false}
+use mathlib.Core.List.{List}
 use mathlib.Core.Path.{_≡_, refl, ap, subst⁻¹}
 use Prim.Native.Nat.{ℕ, zero, suc, _+_, _-_, _*_, _/_, _≤_}
 use native.Mathlib.Omega.{arith}
@@ -7,7 +8,8 @@ use Rattle.paper.specs.Strings.{Bytes}
 use Rattle.paper.specs.Section7.{twoTo, _·_}
 use Rattle.paper.specs.Figure6.{Row, minus1, row, Key, Defined, E}
 use Rattle.paper.specs.Document01.{aᵢ, aaᵢ, hash}
-use Rattle.tbc.specs.Meaning.{pair, pairOf, named, rowOf, Plain, Running, Hashing}
+use Rattle.columns.specs.Columns.{columnsOf}
+use Rattle.tbc.specs.Meaning.{base, pair, pairOf, named, rowOf, Plain, Running, Hashing}
 use Rattle.tbc.specs.declared.Base.{Base}
 use Rattle.tbc.specs.declared.Pair.{Pair}
 use Rattle.tbc.proofs.Masks.{row-of}
@@ -20,13 +22,13 @@ module _ (p : Pair) (minus : Bool) (i j : ℕ) (e : p ≡ pair minus i j) where
   plain h = subst⁻¹ (λ (q : Pair). Plain (rowOf q) (q .2)) e h
 
 -- the number j of a row from 1 on, with its power of L
-pub running : (p : Pair) (i j : ℕ) → p ≡ pair false i j → (k : Base) (power : Bytes) → 1 ≤ i → 1 ≤ j → power ≡ twoTo ((j - 1) / 8) (k .l) → Running k p power
+pub running : (p : Pair) (i j : ℕ) → p ≡ pair false i j → (k : Base) (power : List ℕ) → 1 ≤ i → 1 ≤ j → power ≡ columnsOf (twoTo ((j - 1) / 8) (base k .L)) → Running k p power
 running p i j e k power g h c =
     subst⁻¹ (λ (q : Pair). Running k q power) e
     (record { plus = refl; counted = g; from1 = h; carried = c })
 
 -- the number j of a row from 3 on, with the row's multiple of J
-pub hashing : (p : Pair) (i j : ℕ) → p ≡ pair false i j → (k : Base) (mask : Bytes) → 3 ≤ i → mask ≡ ((i - 2) * 8) · k .j → Hashing k p mask
+pub hashing : (p : Pair) (i j : ℕ) → p ≡ pair false i j → (k : Base) (mask : List ℕ) → 3 ≤ i → mask ≡ columnsOf (((i - 2) * 8) · base k .J) → Hashing k p mask
 hashing p i j e k mask g m = subst⁻¹ (λ (q : Pair). Hashing k q mask) e (record { plus = refl; from3 = g; masked = m })
 
 -- the pair of two indices stands for them, so that `table` is 01's
@@ -61,11 +63,11 @@ counted-defined (suc zero) j g h = h
 counted-defined (suc (suc zero)) j g h = h
 counted-defined (suc (suc (suc i))) j g h = tt
 
-pub running-defined : (k : Base) (p : Pair) (power : Bytes) → Running k p power → Defined (rowOf p) (p .2)
+pub running-defined : (k : Base) (p : Pair) (power : List ℕ) → Running k p power → Defined (rowOf p) (p .2)
 running-defined k p power h =
     subst⁻¹ (λ (r : Row). Defined r (p .2)) (row-of p (p .1) (h .plus) refl) (counted-defined (p .1) (p .2) (h .counted) (h .from1))
 
-pub hashing-defined : (k : Base) (p : Pair) (mask : Bytes) → Hashing k p mask → Defined (rowOf p) (p .2)
+pub hashing-defined : (k : Base) (p : Pair) (mask : List ℕ) → Hashing k p mask → Defined (rowOf p) (p .2)
 hashing-defined k p mask h =
     let from3 : p .1 ≡ suc (suc (suc (p .1 - 3))) = omega (arith, h .from3) in
     subst⁻¹ (λ (r : Row). Defined r (p .2)) (row-of p _ (h .plus) from3) tt

@@ -2,39 +2,48 @@
 use mathlib.Core.Bool.{Bool, true, false}
 use mathlib.Core.List.{List, [], _∷_, map}
 use mathlib.Core.Path.{_≡_}
-use Prim.Native.Nat.{ℕ, zero, suc, _-_, _*_, _/_, _%_, _≤_}
+use Prim.Native.Nat.{ℕ, zero, suc, _+_, _-_, _*_, _/_, _%_, _≤_}
 use lib.Dec.{eqb}
+use lib.ListN.{getD}
 use Rattle.paper.specs.Strings.{Bytes, if_then_else_, join}
 use Rattle.paper.specs.Section7.{double, twoTo, _·_}
 use Rattle.paper.specs.Figure6 as figure6
 use Rattle.paper.specs.Figure6.{Row, minus1, row}
 use Rattle.paper.specs.Document01.{Use, a, aᵢ, aaᵢ, x, y, xx, yy, u, v, uu, vv, tiny, tinyLast, prf, hash, indices}
+use Rattle.columns.specs.Columns.{columnsOf, blockOf}
 use Rattle.tbc.specs.declared.Key.{Key}
 use Rattle.tbc.specs.declared.Base.{Base}
 use Rattle.tbc.specs.declared.Pair.{Pair}
 
--- the three blocks of a key record, and of the part of it that loops take along
+-- the three blocks of a key record, and of the part of it that loops take along, which has them as columns
 abbrev pub blocks : Key → figure6.Key
 blocks k = record { I = k .i; J = k .j; L = k .l }
 
 abbrev pub base : Base → figure6.Key
-base k = record { I = k .i; J = k .j; L = k .l }
+base k = record { I = blockOf (k .i); J = blockOf (k .j); L = blockOf (k .l) }
 
--- 0·X to 7·X, one after the other
-unfoldable pub multiples : Bytes → Bytes
-multiples X = join 8 (λ n. (n - 1) · X)
+abbrev pub baseOf : figure6.Key → Base
+baseOf K = record { i = columnsOf (K .I); j = columnsOf (K .J); l = columnsOf (K .L) }
+
+-- 0·X to 7·X as columns, one after the other
+unfoldable pub multiples : Bytes → List ℕ
+multiples X = join 8 (λ n. columnsOf ((n - 1) · X))
+
+-- the four numbers of m from place n on
+abbrev pub fourAt : List ℕ → ℕ → List ℕ
+fourAt m n = getD m n 0 ∷ getD m (n + 1) 0 ∷ getD m (n + 2) 0 ∷ getD m (n + 3) 0 ∷ []
 
 -- each block that the record keeps is its multiple of I, J or L: those that request E7 names, and those that Figure 6 reads
 pub record Kept (k : Key) : Type 0 where
-  pub I2 : k .i2 ≡ 2 · k .i
-  pub J2 : k .j2 ≡ 2 · k .j
+  pub I2 : k .i2 ≡ columnsOf (2 · k .i)
+  pub J2 : k .j2 ≡ columnsOf (2 · k .j)
   pub Ls : k .ls ≡ multiples (k .l)
   pub Js : k .js ≡ multiples (k .j)
   pub Rows : k .rows ≡ multiples (8 · k .j)
 
 -- m is 0·J to 7·J, taken out of the record and lent beside its base
-abbrev pub OfJ : Base → Bytes → Type 0
-OfJ k m = m ≡ multiples (k .j)
+abbrev pub OfJ : Base → List ℕ → Type 0
+OfJ k m = m ≡ multiples (base k .J)
 
 -- a pair of indices, (-1, second) being minus with 1
 abbrev pub pair : Bool → ℕ → ℕ → Pair
@@ -59,8 +68,8 @@ indexPairs =
     map named (a ∷ aᵢ 0 ∷ aaᵢ 0 ∷ x ∷ y ∷ xx ∷ yy ∷ u ∷ v ∷ uu ∷ vv ∷ tiny 16 ∷ tiny 15 ∷ tinyLast ∷ prf ∷ hash 0 0 ∷ [])
 
 -- the power that follows the power for b
-abbrev pub nextPower : ℕ → Bytes → Bytes
-nextPower b power = if eqb (b % 8) 0 then double power else power
+abbrev pub nextPower : ℕ → List ℕ → List ℕ
+nextPower b power = if eqb (b % 8) 0 then columnsOf (double (blockOf power)) else power
 
 -- the pairs whose mask is one multiple of J below 8: lines 404 and 405, where the figure defines them
 abbrev pub Plain : Row → ℕ → Type 0
@@ -69,14 +78,14 @@ Plain (row zero) j = j ≤ 7
 Plain (row (suc i)) j = ⊥
 
 -- the pair whose second index counts up from 1 in a row from 1 on, and the power of L that goes with it
-pub record Running (k : Base) (p : Pair) (power : Bytes) : Type 0 where
+pub record Running (k : Base) (p : Pair) (power : List ℕ) : Type 0 where
   pub plus : p .0 ≡ false
   pub counted : 1 ≤ p .1
   pub from1 : 1 ≤ p .2
-  pub carried : power ≡ twoTo ((p .2 - 1) / 8) (k .l)
+  pub carried : power ≡ columnsOf (twoTo ((p .2 - 1) / 8) (base k .L))
 
 -- the pair of a row from 3 on, and the multiple of J that tells that row from the others
-pub record Hashing (k : Base) (p : Pair) (mask : Bytes) : Type 0 where
+pub record Hashing (k : Base) (p : Pair) (mask : List ℕ) : Type 0 where
   pub plus : p .0 ≡ false
   pub from3 : 3 ≤ p .1
-  pub masked : mask ≡ ((p .1 - 2) * 8) · k .j
+  pub masked : mask ≡ columnsOf (((p .1 - 2) * 8) · base k .J)

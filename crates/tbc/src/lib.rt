@@ -1,71 +1,106 @@
-// The block function E of Figure 6 of the AEZ paper: the key record, the table of index pairs, and E itself.
+// The block function E of Figure 6 of the AEZ paper: the key record, the table of index pairs, and E itself. A block goes in and comes out as
+// 16 bytes; masks, multiples and keys are columns (`columns`).
+use columns::Columns;
+ghost use mathlib.Core.List.{_∷_, map};
 ghost use mathlib.Core.Path.{_≡_};
 ghost use Prim.Native.Nat.{_+_, _-_, _*_, _%_, _<_, _≤_};
-ghost use lib.ListN.{length, take, drop};
+ghost use lib.ListN.{length, drop};
 ghost use Rattle.paper.specs.Strings.{_⊕_};
 ghost use Rattle.paper.specs.Section7.{_·_};
 ghost use Rattle.paper.specs.Figure6.{keyOf, k0, k1, k2, K10, E};
-ghost use Rattle.tbc.specs.Meaning.{blocks, base, multiples, Kept, OfJ, pair, indexPairs, rowOf, nextPower, Plain, Running, Hashing};
+ghost use Rattle.columns.specs.Columns.{columnsOf, blockOf};
+ghost use Rattle.tbc.specs.Meaning.{blocks, base, baseOf, multiples, fourAt, Kept, OfJ, pair, indexPairs, rowOf, nextPower, Plain, Running, Hashing};
 
-// The key: the blocks I, J and L, and the multiples of them that are kept. Only `key_of` makes one, and nothing changes it: each kept
-// block is its multiple from then on (`Meaning.Kept`). 2·I, 2·J and the multiples of L are kept because request E7 names them; what
+// The key: the blocks I, J and L, and the multiples of them that are kept, as columns. Only `key_of` makes one, and nothing changes it: each
+// kept block is its multiple from then on (`Meaning.Kept`). 2·I, 2·J and the multiples of L are kept because request E7 names them; what
 // Figure 6 reads are the multiples of J, and those of 8·J, which tell the rows of the hash apart.
 pub struct Key {
     i: [u8; 16],
     j: [u8; 16],
     l: [u8; 16],
     // 2·I and 2·J.
-    i2: [u8; 16],
-    j2: [u8; 16],
+    i2: Columns,
+    j2: Columns,
     // 0·L to 7·L, 0·J to 7·J, and 0·(8·J) to 7·(8·J), each one after the other.
-    ls: [u8; 128],
-    js: [u8; 128],
-    rows: [u8; 128],
+    ls: [u32; 32],
+    js: [u32; 32],
+    rows: [u32; 32],
 }
 
-// What loops take of a key from block to block: I, J and L by value. The multiples of J are lent beside it.
+// What loops take of a key from block to block: I, J and L as columns, by value. The multiples of J are lent beside it.
 pub struct Base {
-    i: [u8; 16],
-    j: [u8; 16],
-    l: [u8; 16],
+    i: Columns,
+    j: Columns,
+    l: Columns,
 }
 
 // 0·x to 7·x, by section 7's rules: 2n·x is 2·(n·x), and (2n + 1)·x is 2n·x ⊕ x.
-fn multiples(x: [u8; 16]) -> [u8; 128]
-    ensures { λ r. ⌜ r ≡ multiples x ⌝ }
+fn multiples(x: Columns) -> [u32; 32]
+    ensures { λ r. ⌜ r ≡ multiples (blockOf x) ⌝ }
 {
-    let mut m = [0u8; 128];
-    block::store(&mut m, 16, x);
-    let mut n: usize = 2;
-    while n < 8 {
-        let half = block::load(&m, 8 * n);
-        let even = block::double(half);
-        block::store(&mut m, 16 * n, even);
-        let odd = block::xor(even, x);
-        block::store(&mut m, 16 * n + 16, odd);
-        n += 2;
-    }
-    m
+    let two = columns::double(x);
+    let three = columns::xor(two, x);
+    let four = columns::double(two);
+    let five = columns::xor(four, x);
+    let six = columns::double(three);
+    let seven = columns::xor(six, x);
+    [
+        0,
+        0,
+        0,
+        0,
+        x[0],
+        x[1],
+        x[2],
+        x[3],
+        two[0],
+        two[1],
+        two[2],
+        two[3],
+        three[0],
+        three[1],
+        three[2],
+        three[3],
+        four[0],
+        four[1],
+        four[2],
+        four[3],
+        five[0],
+        five[1],
+        five[2],
+        five[3],
+        six[0],
+        six[1],
+        six[2],
+        six[3],
+        seven[0],
+        seven[1],
+        seven[2],
+        seven[3],
+    ]
 }
 
 // Of eight blocks the one that n mod 8 counts from 0.
-fn multiple(m: &[u8; 128], n: u32) -> [u8; 16]
-    ensures { λ r. ⌜ r ≡ take 16 (drop (16 * (n % 8)) (now (m .entry))) ⌝ }
+fn multiple(m: &[u32; 32], n: u32) -> Columns
+    ensures { λ r. ⌜ r ≡ fourAt (now (m .entry)) (4 * (n % 8)) ⌝ }
 {
-    let at = (n % 8) as usize;
-    block::load(m, 16 * at)
+    let at = 4 * ((n % 8) as usize);
+    [m[at], m[at + 1], m[at + 2], m[at + 3]]
 }
 
 // The record of I, J and L.
 fn record_of(i: [u8; 16], j: [u8; 16], l: [u8; 16]) -> Key
     ensures { λ r. ⌜ (r .i ≡ i) × (r .j ≡ j) × (r .l ≡ l) × Kept r ⌝ }
 {
-    let i2 = block::double(i);
-    let ls = multiples(l);
-    let js = multiples(j);
+    let of_i = columns::of_block(i);
+    let i2 = columns::double(of_i);
+    let of_l = columns::of_block(l);
+    let ls = multiples(of_l);
+    let of_j = columns::of_block(j);
+    let js = multiples(of_j);
     let j2 = multiple(&js, 2);
     let j4 = multiple(&js, 4);
-    let j8 = block::double(j4);
+    let j8 = columns::double(j4);
     let rows = multiples(j8);
     Key {
         i,
@@ -93,16 +128,19 @@ pub fn key_of(s: &[u8]) -> Key
 impl Key {
     // I, J and L.
     pub fn base(self) -> Base
-        ensures { λ r. ⌜ base r ≡ blocks self ⌝ }
+        ensures { λ r. ⌜ r ≡ baseOf (blocks self) ⌝ }
     {
-        let i = self.i;
-        let j = self.j;
-        let l = self.l;
+        let block_i = self.i;
+        let block_j = self.j;
+        let block_l = self.l;
+        let i = columns::of_block(block_i);
+        let j = columns::of_block(block_j);
+        let l = columns::of_block(block_l);
         Base { i, j, l }
     }
 
     // 0·J to 7·J.
-    pub fn multiples(self) -> [u8; 128]
+    pub fn multiples(self) -> [u32; 32]
         requires { ⌜ Kept self ⌝ }
         ensures { λ r. ⌜ r ≡ multiples (blocks self .J) ⌝ }
     {
@@ -111,9 +149,9 @@ impl Key {
 
     // Lines 408 and 409: s·(8·J), which is (8s)·J, for row s + 2. It is kept for s below 8. From there on it is put together from what is kept
     // for the rest of s, three times doubled, and for its three low bits.
-    pub fn row_mask(self, p: Pair) -> [u8; 16]
+    pub fn row_mask(self, p: Pair) -> Columns
         requires { ⌜ (Kept self) × (3 ≤ p .1) × (p .1 ≤ 65) ⌝ }
-        ensures { λ r. ⌜ r ≡ ((p .1 - 2) * 8) · blocks self .J ⌝ }
+        ensures { λ r. ⌜ r ≡ columnsOf (((p .1 - 2) * 8) · blocks self .J) ⌝ }
     {
         let rows = self.rows;
         let s = p.1 - 2;
@@ -121,18 +159,18 @@ impl Key {
             return multiple(&rows, s);
         }
         let high = multiple(&rows, s / 8);
-        let two = block::double(high);
-        let four = block::double(two);
-        let eight = block::double(four);
+        let two = columns::double(high);
+        let four = columns::double(two);
+        let eight = columns::double(four);
         let low = multiple(&rows, s);
-        block::xor(eight, low)
+        columns::xor(eight, low)
     }
 }
 
 impl Base {
     // L, which is the power of L for the numbers from 1 to 8.
-    pub fn power(self) -> [u8; 16]
-        ensures { λ r. ⌜ r ≡ base self .L ⌝ }
+    pub fn power(self) -> Columns
+        ensures { λ r. ⌜ r ≡ columnsOf (base self .L) ⌝ }
     {
         self.l
     }
@@ -216,120 +254,115 @@ impl Pair {
     }
 }
 
-// Lines 402 and 403: the key lists.
-fn keys0(k: Base) -> [[u8; 16]; 5]
-    ensures { λ r. ⌜ r ≡ k0 (base k) ⌝ }
+// Lines 402 and 403: the key lists, with a mask for the first key. That key is zero, and it is added where the mask is.
+fn keys0(k: Base, mask: Columns) -> [Columns; 5]
+    ensures { λ r. ⌜ map blockOf r ≡ blockOf mask ∷ drop 1 (k0 (base k)) ⌝ }
 {
-    let z = [0u8; 16];
+    let z = [0u32; 4];
     let i = k.i;
     let j = k.j;
     let l = k.l;
-    [z, i, j, l, z]
+    [mask, i, j, l, z]
 }
 
-fn keys1(k: Base) -> [[u8; 16]; 5]
-    ensures { λ r. ⌜ r ≡ k1 (base k) ⌝ }
+fn keys1(k: Base, mask: Columns) -> [Columns; 5]
+    ensures { λ r. ⌜ map blockOf r ≡ blockOf mask ∷ drop 1 (k1 (base k)) ⌝ }
 {
-    let z = [0u8; 16];
+    let z = [0u32; 4];
     let i = k.i;
     let j = k.j;
     let l = k.l;
-    [z, j, l, i, z]
+    [mask, j, l, i, z]
 }
 
-fn keys2(k: Base) -> [[u8; 16]; 5]
-    ensures { λ r. ⌜ r ≡ k2 (base k) ⌝ }
+fn keys2(k: Base, mask: Columns) -> [Columns; 5]
+    ensures { λ r. ⌜ map blockOf r ≡ blockOf mask ∷ drop 1 (k2 (base k)) ⌝ }
 {
-    let z = [0u8; 16];
     let i = k.i;
     let j = k.j;
     let l = k.l;
-    [z, l, i, j, i]
+    [mask, l, i, j, i]
 }
 
-fn keys10(k: Base) -> [[u8; 16]; 11]
-    ensures { λ r. ⌜ r ≡ K10 (base k) ⌝ }
+fn keys10(k: Base, mask: Columns) -> [Columns; 11]
+    ensures { λ r. ⌜ map blockOf r ≡ blockOf mask ∷ drop 1 (K10 (base k)) ⌝ }
 {
-    let z = [0u8; 16];
     let i = k.i;
     let j = k.j;
     let l = k.l;
-    [z, i, l, j, i, l, j, i, l, j, i]
+    [mask, i, l, j, i, l, j, i, l, j, i]
 }
 
 // The power of L for the second index that follows b, from the power for b: it doubles after each eighth.
-pub fn next_power(b: u32, power: [u8; 16]) -> [u8; 16]
+pub fn next_power(b: u32, power: Columns) -> Columns
     ensures { λ r. ⌜ r ≡ nextPower b power ⌝ }
 {
     if b % 8 == 0 {
-        return block::double(power);
+        return columns::double(power);
     }
     power
 }
 
-// Lines 406 and 408: x ⊕ (b mod 8)·J ⊕ power, the multiple of J being read.
-fn masked(m: &[u8; 128], b: u32, power: [u8; 16], x: [u8; 16]) -> [u8; 16]
-    ensures { λ r. ⌜ r ≡ x ⊕ take 16 (drop (16 * (b % 8)) (now (m .entry))) ⊕ power ⌝ }
+// Lines 406 and 408: (b mod 8)·J ⊕ power, the multiple of J being read.
+fn running_mask(m: &[u32; 32], b: u32, power: Columns) -> Columns
+    ensures { λ r. ⌜ r ≡ columnsOf (blockOf (fourAt (now (m .entry)) (4 * (b % 8))) ⊕ blockOf power) ⌝ }
 {
     let low = multiple(m, b);
-    let y = block::xor(x, low);
-    block::xor(y, power)
+    columns::xor(low, power)
 }
 
 // E in rows -1 and 0: lines 404 and 405. m is 0·J to 7·J, of which the mask is one.
-pub fn e(k: Base, m: &[u8; 128], p: Pair, x: [u8; 16]) -> [u8; 16]
+pub fn e(k: Base, m: &[u32; 32], p: Pair, x: [u8; 16]) -> [u8; 16]
     requires { ⌜ (Plain (rowOf p) (p .2)) × OfJ k (now m) ⌝ }
     ensures { λ r. ⌜ r ≡ E (base k) (rowOf p) (p .2) x ⌝ }
 {
     let number = p.2;
     let of_j = multiple(m, number);
-    let y = block::xor(x, of_j);
     if p.0 {
-        let keys = keys10(k);
-        return aes::aes10(keys, y);
+        let keys = keys10(k, of_j);
+        return aes::aes10(keys, x);
     }
-    let keys = keys0(k);
-    aes::aes4(keys, y)
+    let keys = keys0(k, of_j);
+    aes::aes4(keys, x)
 }
 
 // E in rows 1 and 2, whose numbers count up: line 406. power is 2^floor((b - 1) / 8)·L for the second index b, which a loop carries along.
-pub fn e_running(k: Base, m: &[u8; 128], p: Pair, power: [u8; 16], x: [u8; 16]) -> [u8; 16]
+pub fn e_running(k: Base, m: &[u32; 32], p: Pair, power: Columns, x: [u8; 16]) -> [u8; 16]
     requires { ⌜ (Running k p power) × (p .1 ≤ 2) × OfJ k (now m) ⌝ }
     ensures { λ r. ⌜ r ≡ E (base k) (rowOf p) (p .2) x ⌝ }
 {
-    let y = masked(m, p.2, power, x);
+    let mask = running_mask(m, p.2, power);
     if p.1 == 1 {
-        let keys = keys1(k);
-        return aes::aes4(keys, y);
+        let keys = keys1(k, mask);
+        return aes::aes4(keys, x);
     }
-    let keys = keys2(k);
-    aes::aes4(keys, y)
+    let keys = keys2(k, mask);
+    aes::aes4(keys, x)
 }
 
 // E of a full block in a row from 3 on, whose numbers count up: line 408. mask is the row's multiple of J.
 pub fn e_full(
     k: Base,
-    m: &[u8; 128],
+    m: &[u32; 32],
     p: Pair,
-    mask: [u8; 16],
-    power: [u8; 16],
+    mask: Columns,
+    power: Columns,
     x: [u8; 16],
 ) -> [u8; 16]
     requires { ⌜ (Hashing k p mask) × (Running k p power) × OfJ k (now m) ⌝ }
     ensures { λ r. ⌜ r ≡ E (base k) (rowOf p) (p .2) x ⌝ }
 {
-    let y = masked(m, p.2, power, x);
-    let full = block::xor(y, mask);
-    let keys = keys0(k);
-    aes::aes4(keys, full)
+    let running = running_mask(m, p.2, power);
+    let full = columns::xor(running, mask);
+    let keys = keys0(k, full);
+    aes::aes4(keys, x)
 }
 
 // E of a short block in a row from 3 on: line 409.
-pub fn e_short(k: Base, p: Pair, mask: [u8; 16], x: [u8; 16]) -> [u8; 16]
+pub fn e_short(k: Base, p: Pair, mask: Columns, x: [u8; 16]) -> [u8; 16]
     requires { ⌜ (Hashing k p mask) × (p .2 ≡ 0) ⌝ }
     ensures { λ r. ⌜ r ≡ E (base k) (rowOf p) (p .2) x ⌝ }
 {
-    let short = block::xor(x, mask);
-    let keys = keys0(k);
-    aes::aes4(keys, short)
+    let keys = keys0(k, mask);
+    aes::aes4(keys, x)
 }

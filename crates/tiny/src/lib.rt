@@ -121,7 +121,7 @@ fn pair_for(n: usize) -> tbc::Pair
 // Line 216: E of turn i, for the right half r.
 fn e_of_turn(
     k: tbc::Base,
-    m: &[u8; 128],
+    m: &[u32; 32],
     delta: [u8; 16],
     n: usize,
     i: u64,
@@ -140,7 +140,7 @@ fn e_of_turn(
 }
 
 // Line 216: turn i.
-fn turn(k: tbc::Base, m: &[u8; 128], delta: [u8; 16], n: usize, i: u64, s: Halves) -> Halves
+fn turn(k: tbc::Base, m: &[u32; 32], delta: [u8; 16], n: usize, i: u64, s: Halves) -> Halves
     requires { ⌜ (n ≤ 31) × OfJ k (now m) ⌝ }
     ensures { λ t. ⌜ firsts n t ≡ halfTurn (E (base k)) delta n (tinyIndex (8 * n)) i (firsts n s) ⌝ }
 {
@@ -152,7 +152,7 @@ fn turn(k: tbc::Base, m: &[u8; 128], delta: [u8; 16], n: usize, i: u64, s: Halve
 }
 
 // Line 215: the turns 0, 1, .. for n bytes.
-fn turns_up(k: tbc::Base, m: &[u8; 128], delta: [u8; 16], n: usize, s: Halves) -> Halves
+fn turns_up(k: tbc::Base, m: &[u32; 32], delta: [u8; 16], n: usize, s: Halves) -> Halves
     requires { ⌜ (n ≤ 31) × OfJ k (now m) ⌝ }
     ensures { λ t. ⌜ firsts n t ≡ halfTurnsUp (E (base k)) delta n (tinyIndex (8 * n)) (tinyRounds (8 * n)) (firsts n s) ⌝ }
 {
@@ -168,7 +168,7 @@ fn turns_up(k: tbc::Base, m: &[u8; 128], delta: [u8; 16], n: usize, s: Halves) -
 }
 
 // Line 215 when deciphering: the turns .., 1, 0.
-fn turns_down(k: tbc::Base, m: &[u8; 128], delta: [u8; 16], n: usize, s: Halves) -> Halves
+fn turns_down(k: tbc::Base, m: &[u32; 32], delta: [u8; 16], n: usize, s: Halves) -> Halves
     requires { ⌜ (n ≤ 31) × OfJ k (now m) ⌝ }
     ensures { λ t. ⌜ firsts n t ≡ halfTurnsDown (E (base k)) delta n (tinyIndex (8 * n)) (tinyRounds (8 * n)) (firsts n s) ⌝ }
 {
@@ -209,7 +209,7 @@ fn put_joined(t: Halves, s: &mut [u8])
 }
 
 // Line 217, its `if`: the first bit of a string of less than 16 bytes.
-fn last_step(k: tbc::Base, m: &[u8; 128], delta: [u8; 16], s: &mut [u8])
+fn last_step(k: tbc::Base, m: &[u32; 32], delta: [u8; 16], s: &mut [u8])
     requires { ⌜ (1 ≤ length (now s)) × OfJ k (now m) ⌝ }
     ensures { λ _. ⌜ now (s .exit) ≡ lastBytes (E (base k)) delta (now (s .entry)) ⌝ }
 {

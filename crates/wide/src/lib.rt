@@ -1,6 +1,7 @@
 // AEZ-core, in place: enciphering and deciphering a string of 32 bytes or more where it stands.
 // Lines 220 to 240 of Figure 5 of the AEZ paper; deciphering exchanges (0, 1) with (0, 2) and (-1, 1) with (-1, 2).
 // m is everywhere 0·J to 7·J, taken out of the key once.
+use columns::Columns;
 ghost use mathlib.Core.List.{_++_};
 ghost use mathlib.Core.Path.{_≡_};
 ghost use Prim.Native.Nat.{_-_, _/_, _<_, _≤_};
@@ -9,6 +10,7 @@ ghost use Rattle.paper.specs.Strings.{_⊕_};
 ghost use Rattle.paper.specs.Section7.{twoTo};
 ghost use Rattle.paper.specs.Figure6.{row, E};
 ghost use Rattle.paper.specs.Figure5.{core};
+ghost use Rattle.columns.specs.Columns.{columnsOf};
 ghost use Rattle.tbc.specs.Meaning.{blocks, base, Kept, OfJ, rowOf, Plain};
 ghost use Rattle.wide.specs.Pairs.{firstX, firstPair, secondY, secondPair, summand, newPair, pairSum, paired};
 ghost use Rattle.wide.specs.Ways.{firstOf, secondOf, endPairs};
@@ -62,7 +64,7 @@ struct Sums {
 }
 
 // a ⊕ E(x) at the pair p.
-fn added(k: tbc::Base, m: &[u8; 128], p: tbc::Pair, a: [u8; 16], x: [u8; 16]) -> [u8; 16]
+fn added(k: tbc::Base, m: &[u32; 32], p: tbc::Pair, a: [u8; 16], x: [u8; 16]) -> [u8; 16]
     requires { ⌜ (Plain (rowOf p) (p .2)) × OfJ k (now m) ⌝ }
     ensures { λ r. ⌜ r ≡ a ⊕ E (base k) (rowOf p) (p .2) x ⌝ }
 {
@@ -73,13 +75,13 @@ fn added(k: tbc::Base, m: &[u8; 128], p: tbc::Pair, a: [u8; 16], x: [u8; 16]) ->
 // a ⊕ E(x) at the pair (1, b). power is the power of L for b.
 fn added_at(
     k: tbc::Base,
-    m: &[u8; 128],
+    m: &[u32; 32],
     b: u32,
-    power: [u8; 16],
+    power: Columns,
     a: [u8; 16],
     x: [u8; 16],
 ) -> [u8; 16]
-    requires { ⌜ (1 ≤ b) × (power ≡ twoTo ((b - 1) / 8) (base k .L)) × OfJ k (now m) ⌝ }
+    requires { ⌜ (1 ≤ b) × (power ≡ columnsOf (twoTo ((b - 1) / 8) (base k .L))) × OfJ k (now m) ⌝ }
     ensures { λ r. ⌜ r ≡ a ⊕ E (base k) (row 1) b x ⌝ }
 {
     let p = tbc::Pair::A_I.at(b);
@@ -97,8 +99,8 @@ fn put_two(part: &mut [u8], a: [u8; 16], b: [u8; 16])
 }
 
 // Line 226: a pair M_i M′_i becomes W_i X_i, and X_i is returned. power is the power of L for the number b of the pair.
-fn first_pair(k: tbc::Base, m: &[u8; 128], b: u32, power: [u8; 16], part: &mut [u8]) -> [u8; 16]
-    requires { ⌜ (1 ≤ b) × (length (now part) ≡ 32) × (power ≡ twoTo ((b - 1) / 8) (base k .L)) × OfJ k (now m) ⌝ }
+fn first_pair(k: tbc::Base, m: &[u32; 32], b: u32, power: Columns, part: &mut [u8]) -> [u8; 16]
+    requires { ⌜ (1 ≤ b) × (length (now part) ≡ 32) × (power ≡ columnsOf (twoTo ((b - 1) / 8) (base k .L))) × OfJ k (now m) ⌝ }
     ensures { λ r. ⌜ (r ≡ firstX (E (base k)) b (now (part .entry))) × (now (part .exit) ≡ firstPair (E (base k)) b (now (part .entry))) ⌝ }
 {
     let left = block::load(part, 0);
@@ -112,13 +114,13 @@ fn first_pair(k: tbc::Base, m: &[u8; 128], b: u32, power: [u8; 16], part: &mut [
 // Lines 232 and 233: a pair W_i X_i becomes C_i C′_i, and Y_i is returned.
 fn second_pair(
     k: tbc::Base,
-    m: &[u8; 128],
+    m: &[u32; 32],
     b: u32,
-    power: [u8; 16],
+    power: Columns,
     sum: [u8; 16],
     part: &mut [u8],
 ) -> [u8; 16]
-    requires { ⌜ (1 ≤ b) × (length (now part) ≡ 32) × (power ≡ twoTo ((b - 1) / 8) (base k .L)) × OfJ k (now m) ⌝ }
+    requires { ⌜ (1 ≤ b) × (length (now part) ≡ 32) × (power ≡ columnsOf (twoTo ((b - 1) / 8) (base k .L))) × OfJ k (now m) ⌝ }
     ensures { λ r. ⌜ (r ≡ secondY (E (base k)) sum b (now (part .entry))) × (now (part .exit) ≡ secondPair (E (base k)) sum b (now (part .entry))) ⌝ }
 {
     let p = tbc::Pair::AA_I.at(b);
@@ -136,14 +138,14 @@ fn second_pair(
 // One pair of a pass; what it adds to the pass's sum is returned. sum is S, which the second pass reads.
 fn one_pair(
     k: tbc::Base,
-    m: &[u8; 128],
+    m: &[u32; 32],
     b: u32,
-    power: [u8; 16],
+    power: Columns,
     pass: Pass,
     sum: [u8; 16],
     part: &mut [u8],
 ) -> [u8; 16]
-    requires { ⌜ (1 ≤ b) × (length (now part) ≡ 32) × (power ≡ twoTo ((b - 1) / 8) (base k .L)) × OfJ k (now m) ⌝ }
+    requires { ⌜ (1 ≤ b) × (length (now part) ≡ 32) × (power ≡ columnsOf (twoTo ((b - 1) / 8) (base k .L))) × OfJ k (now m) ⌝ }
     ensures { λ r. ⌜ (r ≡ summand (E (base k)) pass sum b (now (part .entry))) × (now (part .exit) ≡ newPair (E (base k)) pass sum b (now (part .entry))) ⌝ }
 {
     match pass {
@@ -154,7 +156,7 @@ fn one_pair(
 
 // A pass over every pair: the first makes W_1 X_1 .. W_m X_m of M_1 M′_1 .. M_m M′_m and returns the sum of the X_i, the second makes
 // C_1 C′_1 .. C_m C′_m of that, by the sum S, and returns the sum of the Y_i. The rest stays.
-fn all_pairs(k: tbc::Base, m: &[u8; 128], pass: Pass, sum: [u8; 16], s: &mut [u8]) -> [u8; 16]
+fn all_pairs(k: tbc::Base, m: &[u32; 32], pass: Pass, sum: [u8; 16], s: &mut [u8]) -> [u8; 16]
     requires { ⌜ (32 ≤ length (now s)) × (length (now s) ≤ 65536) × OfJ k (now m) ⌝ }
     ensures { λ r. ⌜ (r ≡ pairSum (summand (E (base k)) pass sum) (now (s .entry))) × (now (s .exit) ≡ paired (newPair (E (base k)) pass sum) (now (s .entry))) ⌝ }
 {
@@ -176,7 +178,7 @@ fn all_pairs(k: tbc::Base, m: &[u8; 128], pass: Pass, sum: [u8; 16], s: &mut [u8
 }
 
 // Lines 227 to 229: a sum, and what u and v add to it. At 16 bytes v is empty, and its padding is added all the same.
-fn with_uv(k: tbc::Base, m: &[u8; 128], total: [u8; 16], uv: &[u8]) -> [u8; 16]
+fn with_uv(k: tbc::Base, m: &[u32; 32], total: [u8; 16], uv: &[u8]) -> [u8; 16]
     requires { ⌜ (length (now uv) < 32) × OfJ k (now m) ⌝ }
     ensures { λ r. ⌜ r ≡ withUv (E (base k)) total (now (uv .entry)) ⌝ }
 {
@@ -207,7 +209,7 @@ fn mask(part: &mut [u8], e: [u8; 16])
 }
 
 // Lines 234 to 238: M_u M_v becomes C_u C_v.
-fn mask_uv(k: tbc::Base, m: &[u8; 128], sum: [u8; 16], uv: &mut [u8])
+fn mask_uv(k: tbc::Base, m: &[u32; 32], sum: [u8; 16], uv: &mut [u8])
     requires { ⌜ (length (now uv) < 32) × OfJ k (now m) ⌝ }
     ensures { λ _. ⌜ now (uv .exit) ≡ uMasked (E (base k)) sum (now (uv .entry)) ++ vMasked (E (base k)) sum (now (uv .entry)) ⌝ }
 {
@@ -228,7 +230,7 @@ fn mask_uv(k: tbc::Base, m: &[u8; 128], sum: [u8; 16], uv: &mut [u8])
 // Line 230: S_x, S_y and S, of the last two blocks and the sum X.
 fn middle(
     k: tbc::Base,
-    m: &[u8; 128],
+    m: &[u32; 32],
     delta: [u8; 16],
     way: Way,
     total: [u8; 16],
@@ -251,7 +253,7 @@ fn middle(
 // Line 239: C_x C_y put in place of the last two blocks, by S_x, S_y and the sum Y.
 fn put_last(
     k: tbc::Base,
-    m: &[u8; 128],
+    m: &[u32; 32],
     delta: [u8; 16],
     way: Way,
     total: [u8; 16],

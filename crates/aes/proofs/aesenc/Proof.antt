@@ -4,20 +4,21 @@ use mathlib.Core.Path.{ap, _∙_}
 use lib.ListN.{getD}
 use Rattle.paper.specs.Strings.{Bytes, _⊕_}
 use Rattle.paper.specs.Section7.{aesenc}
-use Rattle.aes.specs.Columns.{mixedColumn, stateBytes}
+use Rattle.columns.specs.Columns.{columnsOf, blockOf}
+use Rattle.aes.specs.Steps.{mixedColumn}
 use Rattle.aes.proofs.Words.{mixed-all}
 use borrow.Author.Needs.{needs}
 use Rattle.aes.proofs.aesenc.Statement.{statement}
 use Rattle.aes.proofs.aesenc.Tie as tie
 
 -- the places where the columns are mixed and where they are shifted, and the start
-abbrev mixings : tie.After-add → tie.After-mixed-column4
+abbrev mixings : tie.After-xor → tie.After-mixed-column4
 mixings c = c .before
 
-abbrev shifts : tie.After-add → tie.After-shifted-column4
+abbrev shifts : tie.After-xor → tie.After-shifted-column4
 shifts c = mixings c .before .before .before .before
 
-abbrev start : tie.After-add → tie.Start
+abbrev start : tie.After-xor → tie.Start
 start c = shifts c .before .before .before .before
 
 returns : tie.Need-returns
@@ -30,9 +31,9 @@ returns c =
     let m1 = m .before .before .mixed-column2 .ensures ∙ ap mixedColumn (h .before .before .shifted-column2 .ensures) in
     let m2 = m .before .mixed-column3 .ensures ∙ ap mixedColumn (h .before .shifted-column3 .ensures) in
     let m3 = m .mixed-column4 .ensures ∙ ap mixedColumn (h .shifted-column4 .ensures) in
-    c .add .ensures
-    ∙ ap (λ (S : Bytes). S ⊕ stateBytes (start c .args .k))
-    ((λ i. stateBytes (m0 i ∷ m1 i ∷ m2 i ∷ m3 i ∷ [])) ∙ mixed-all (getD s 0 0) (getD s 1 0) (getD s 2 0) (getD s 3 0))
+    c .xor .ensures
+    ∙ ap (λ (S : Bytes). columnsOf (S ⊕ blockOf (start c .args .k)))
+    ((λ i. blockOf (m0 i ∷ m1 i ∷ m2 i ∷ m3 i ∷ [])) ∙ mixed-all (getD s 0 0) (getD s 1 0) (getD s 2 0) (getD s 3 0))
 
 pub aesenc-spec : {M : Type 1} → statement M
 aesenc-spec =

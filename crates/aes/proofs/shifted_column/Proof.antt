@@ -1,7 +1,8 @@
 -- `aes::shifted_column` meets its contract.
 use mathlib.Core.Path.{ap, _∙_}
 use Rattle.paper.specs.Fips197.{sbox}
-use Rattle.aes.specs.Columns.{column, shiftedColumn}
+use Rattle.columns.specs.Columns.{column}
+use Rattle.aes.specs.Steps.{shiftedColumn}
 use borrow.Author.Needs.{needs}
 use Rattle.aes.proofs.shifted_column.Statement.{statement}
 use Rattle.aes.proofs.shifted_column.Tie as tie

@@ -10,8 +10,10 @@ use Rattle.paper.specs.Section7.{twoTo}
 use Rattle.paper.specs.Figure6.{row, E, blockAt}
 use Rattle.laws.proofs.Joins.{sum-more}
 use Rattle.laws.proofs.Multiples.{twoTo-zero}
+use Rattle.columns.specs.Columns.{columnsOf}
 use Rattle.tbc.specs.Meaning.{base, pair}
 use Rattle.tbc.specs.declared.Pair.{Pair}
+use Rattle.tbc.proofs.Keys.{base-bytes}
 use Rattle.tbc.proofs.Powers.{next}
 use Rattle.tbc.proofs.Pairs.{running}
 use Rattle.hash.proofs.Rows.{gives, in-its-row}
@@ -20,7 +22,7 @@ use Rattle.hash.proofs.full_blocks.Tie as tie
 
 abbrev Inv-loop : tie.InvT-loop
 Inv-loop k m mask i t pairs total₀ power₀ at₀ j₀ total power at j =
-    (1 ≤ j) × (at ≡ 16 * (j - 1)) × (at ≤ length t) × (total ≡ sum (j - 1) (λ j. E (base k) (row (2 + i)) j (blockAt t j))) × (power ≡ twoTo ((j - 1) / 8) (k .l))
+    (1 ≤ j) × (at ≡ 16 * (j - 1)) × (at ≤ length t) × (total ≡ sum (j - 1) (λ j. E (base k) (row (2 + i)) j (blockAt t j))) × (power ≡ columnsOf (twoTo ((j - 1) / 8) (base k .L)))
 
 abbrev μ-loop : tie.MeasureT-loop
 μ-loop k m mask i t pairs total₀ power₀ at₀ j₀ total power at j = length t - at
@@ -58,7 +60,7 @@ power-requires c κs = search needs
 
 loop-holds : tie.Need-loop-holds Inv-loop μ-loop
 loop-holds c =
-    (omega arith, omega arith, omega arith, unfold sum in refl, c .power .ensures ∙ sym (twoTo-zero (start (c .before) .args .k .l)))
+    (omega arith, omega arith, omega arith, unfold sum in refl, c .power .ensures ∙ ap columnsOf (sym (twoTo-zero (base (start (c .before) .args .k) .L))))
 
 sub-loop : tie.Need-sub-loop Inv-loop μ-loop
 sub-loop c = search needs
@@ -103,7 +105,7 @@ loop-again c =
       omega (arith, l .inv .1),
       omega arith,
       c .before .xor .ensures ∙ ap₂ _⊕_ (l .inv .3) (is-term e) ∙ sym (sum-more (l .j) (term s) (l .inv .0)),
-      c .next-power .ensures ∙ next (l .j) (start (begun s) .args .k .l) (l .power) (l .inv .0) (l .inv .4),
+      c .next-power .ensures ∙ next (l .j) (l .power) (base-bytes (start (begun s) .args .k) .L) (l .inv .0) (l .inv .4),
     )
 
 returns : tie.Need-returns Inv-loop μ-loop

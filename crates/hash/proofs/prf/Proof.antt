@@ -9,7 +9,7 @@ use Rattle.paper.specs.Figure6 as figure6
 use Rattle.paper.specs.Figure6.{minus1, E, prfFrom}
 use Rattle.tbc.specs.declared.Base.{Base}
 use Rattle.tbc.specs.Meaning.{base, blocks}
-use Rattle.tbc.proofs.Keys.{of-j}
+use Rattle.tbc.proofs.Keys.{has-blocks, of-j}
 use Rattle.hash.proofs.Fitting.{Filled, filled-none, filled-more, filled-all}
 use Rattle.hash.proofs.prf.Statement.{statement}
 use Rattle.hash.proofs.prf.Tie as tie
@@ -43,6 +43,10 @@ is-next c =
     let mask = x .xor .ensures ∙ ap (λ (u : Bytes). a .delta ⊕ u) (x .before .number .ensures ∙ ap number next) in
     c .e .ensures ∙ ap (E (base (taken (looped c) .base .result)) minus1 3) mask
 
+-- the base has the key's blocks
+is-base : (c : tie.At-loop Inv-loop μ-loop) → base (taken c .base .result) ≡ blocks (start c .args .k)
+is-base c = has-blocks (start c .args .k) _ (start c .good .0) (taken c .base .result) (taken c .base .ensures)
+
 base-requires : tie.Need-base-requires Inv-loop μ-loop
 base-requires c κs = search needs
 
@@ -63,7 +67,7 @@ e-requires c κs =
     let l = c .before .before .before .before in
     let b = taken l .base in
     let m = l .before .multiples in
-    (omega arith, of-j (start l .args .k) (b .result) (m .result) (b .ensures) (m .ensures))
+    (omega arith, of-j (start l .args .k) (b .result) (m .result) (is-base l) (m .ensures))
 
 sub-put-front : tie.Need-sub-put-front Inv-loop μ-loop
 sub-put-front c = search needs
@@ -101,7 +105,7 @@ returns c =
     let l = c .before in
     let a = start l .args in
     filled-all (l .loop .inv) (omega arith)
-    ∙ ap (λ (K : figure6.Key). prfFrom (E K) (a .delta) (length (a .out .now))) (taken l .base .ensures)
+    ∙ ap (λ (K : figure6.Key). prfFrom (E K) (a .delta) (length (a .out .now))) (is-base l)
 
 pub prf-spec : {M : Type 1} → statement M
 prf-spec =

@@ -10,9 +10,10 @@ use Rattle.paper.specs.Section7.{_·_}
 use Rattle.paper.specs.Figure6 as figure6
 use Rattle.paper.specs.Figure6.{row, BlockFunction, E, blockAt, hashString}
 use Rattle.laws.proofs.Hash.{hash-full, hash-short}
+use Rattle.columns.specs.Columns.{columnsOf}
 use Rattle.tbc.specs.Meaning.{blocks, base, OfJ}
 use Rattle.tbc.specs.declared.Pair.{Pair}
-use Rattle.tbc.proofs.Keys.{of-j}
+use Rattle.tbc.proofs.Keys.{has-blocks, of-j}
 use Rattle.hash.proofs.string_hash.Statement.{statement}
 use Rattle.hash.proofs.string_hash.Tie as tie
 
@@ -37,6 +38,10 @@ start c = entered (taken (masked c))
 base-requires : tie.Need-base-requires
 base-requires c κs = search needs
 
+-- the base has the key's blocks
+is-base : (c : tie.After-base) → base (c .base .result) ≡ blocks (entered c .args .k)
+is-base c = has-blocks (entered c .args .k) _ (entered c .good .0) (c .base .result) (c .base .ensures)
+
 multiples-requires : tie.Need-multiples-requires
 multiples-requires c κs = search needs
 
@@ -52,12 +57,12 @@ row-mask-requires c κs = let s = entered (c .before .before) in (s .pre .0, ome
 
 -- what was taken out of the key: the multiples are those of the base, and the mask is the string's
 of : (c : tie.After-row-mask) → OfJ (taken c .base .result) (c .before .before .multiples .result)
-of c = of-j (entered (taken c) .args .k) (taken c .base .result) (c .before .before .multiples .result) (taken c .base .ensures) (c .before .before .multiples .ensures)
+of c = of-j (entered (taken c) .args .k) (taken c .base .result) (c .before .before .multiples .result) (is-base (taken c)) (c .before .before .multiples .ensures)
 
-mask : (c : tie.After-row-mask) → c .row-mask .result ≡ (entered (taken c) .args .i * 8) · base (taken c .base .result) .J
+mask : (c : tie.After-row-mask) → c .row-mask .result ≡ columnsOf ((entered (taken c) .args .i * 8) · base (taken c .base .result) .J)
 mask c =
     let same : c .before .string .result .1 - 2 ≡ entered (taken c) .args .i = omega (arith, is-row (c .before)) in
-    c .row-mask .ensures ∙ (λ i. (same i * 8) · sym (taken c .base .ensures) i .J)
+    c .row-mask .ensures ∙ (λ i. columnsOf ((same i * 8) · sym (is-base (taken c)) i .J))
 
 full-blocks-requires : tie.Need-full-blocks-requires
 full-blocks-requires c κs =
@@ -71,13 +76,13 @@ full-is : (c : tie.After-full-blocks) → c .full-blocks .result
 full-is c =
     let a = start c .args in
     c .full-blocks .ensures
-    ∙ ap (λ (K : figure6.Key). sum (length (a .t .now) / 16) (λ j. E K (row (2 + a .i)) j (blockAt (a .t .now) j))) (taken (masked c) .base .ensures)
+    ∙ ap (λ (K : figure6.Key). sum (length (a .t .now) / 16) (λ j. E K (row (2 + a .i)) j (blockAt (a .t .now) j))) (is-base (taken (masked c)))
 
 -- and the last block with it
 last-is : (c : tie.After-full-blocks) (full last r : Bytes) → r ≡ full ⊕ E (base (taken (masked c) .base .result)) (row (2 + start c .args .i)) 0 (pad10* last)
     → r ≡ full ⊕ E (blocks (start c .args .k)) (row (2 + start c .args .i)) 0 (pad10* last)
 last-is c full last r e =
-    e ∙ ap (λ (K : figure6.Key). full ⊕ E K (row (2 + start c .args .i)) 0 (pad10* last)) (taken (masked c) .base .ensures)
+    e ∙ ap (λ (K : figure6.Key). full ⊕ E K (row (2 + start c .args .i)) 0 (pad10* last)) (is-base (taken (masked c)))
 
 with-short-requires : tie.Need-with-short-requires
 with-short-requires c κs =

@@ -1,68 +1,70 @@
 -- `tbc::e` meets its contract.
-use mathlib.Core.Path.{_≡_, ap, ap₂, sym, _∙_}
+use mathlib.Core.List.{List, _∷_, map}
+use mathlib.Core.Path.{_≡_, sym, _∙_}
+use Prim.Native.Nat.{ℕ}
 use borrow.Author.Needs.{needs}
+use lib.ListN.{drop}
 use Rattle.paper.specs.Strings.{Bytes, _⊕_}
-use Rattle.paper.specs.Section7.{_·_, AES}
+use Rattle.paper.specs.Section7.{zeros, _·_, AES}
+use Rattle.paper.specs.Figure6.{k0, K10}
 use Rattle.laws.proofs.BlockFunction.{E-404, E-405}
+use Rattle.laws.proofs.KeyBlocks.{times-block}
+use Rattle.block.proofs.Arrays.{array-bytes}
+use Rattle.columns.specs.Columns.{columnsOf, blockOf}
 use Rattle.tbc.specs.Meaning.{base, rowOf}
 use Rattle.tbc.proofs.Keys.{base-bytes}
-use Rattle.tbc.proofs.Masks.{in-minus1, in-row, in-row-0, plain-small, read}
+use Rattle.tbc.proofs.Masks.{in-minus1, in-row, in-row-0, plain-small, read, with-mask}
 use Rattle.tbc.proofs.e.Statement.{statement}
 use Rattle.tbc.proofs.e.Tie as tie
 
-multiple-requires : tie.Need-multiple-requires
-multiple-requires c κs = search needs
+-- what was read is the number's multiple of J, and stands for the first key of a list
+module _ (c : tie.After-multiple) where
+  abbrev start : tie.Start
+  start = c .before
 
-xor-requires : tie.Need-xor-requires
-xor-requires c κs = search needs
+  abbrev J : Bytes
+  J = base (start .args .k) .J
 
--- the mask that was read is the number's multiple of J
-masked-is : (c : tie.After-xor) → c .xor .result ≡ c .before .before .args .x ⊕ c .before .before .args .p .2 · c .before .before .args .k .j
-masked-is c =
-    let s = c .before .before in
-    let a = s .args in
-    let number = plain-small (rowOf (a .p)) (a .p .2) (s .pre .0) in
-    c .xor .ensures
-    ∙ ap (λ (l : Bytes). a .x ⊕ l) (c .before .multiple .ensures ∙ read (a .k) (base-bytes (a .k) _ (s .good .0)) (a .m .now) (s .pre .1) (a .p .2) number)
+  mask-is : c .multiple .result ≡ columnsOf (start .args .p .2 · J)
+  mask-is =
+      let a = start .args in
+      c .multiple .ensures ∙ read (a .k) (a .m .now) (start .pre .1) (a .p .2) (plain-small (rowOf (a .p)) (a .p .2) (start .pre .0))
 
-keys10-requires : tie.Need-keys10-requires
-keys10-requires c κs = search needs
-
-aes10-requires : tie.Need-aes10-requires
-aes10-requires c κs = search needs
+  under : (Ks : List Bytes) (keys : List (List ℕ)) (r : Bytes) → map blockOf keys ≡ blockOf (c .multiple .result) ∷ Ks
+      → r ≡ AES (map blockOf keys) (start .args .x) → r ≡ AES (zeros ∷ Ks) (start .args .x ⊕ start .args .p .2 · J)
+  under Ks keys r f g =
+      with-mask Ks keys (c .multiple .result) (start .args .p .2 · J) (start .args .x) r
+      (times-block (start .args .p .2) (base-bytes (start .args .k) .J))
+      (array-bytes 16 _ _ (start .good .1 .1 .1 .0))
+      mask-is
+      f
+      g
 
 returns : tie.Need-returns
 returns c =
     let y = c .before .before .before in
-    let a = y .before .before .args in
-    c .aes10 .ensures
-    ∙ ap₂ AES (c .before .keys10 .ensures) (masked-is y)
-    ∙ sym (in-minus1 (base (a .k)) (a .x) (a .p) (c .before .before .if1 .taken) ∙ E-404 (base (a .k)) (a .x) (a .p .2))
-
-keys0-requires : tie.Need-keys0-requires
-keys0-requires c κs = search needs
-
-aes4-requires : tie.Need-aes4-requires
-aes4-requires c κs = search needs
+    let a = y .before .args in
+    let K = base (a .k) in
+    under y (drop 1 (K10 K)) (c .before .keys10 .result) (c .aes10 .result) (c .before .keys10 .ensures) (c .aes10 .ensures)
+    ∙ sym (in-minus1 K (a .x) (a .p) (c .before .before .if1 .taken) ∙ E-404 K (a .x) (a .p .2))
 
 returns-2 : tie.Need-returns-2
 returns-2 c =
     let y = c .before .before .before in
-    let a = y .before .before .args in
-    let zero : a .p .1 ≡ 0 = in-row-0 (a .p) (y .before .before .pre .0) (c .before .before .if1 .left) in
-    c .aes4 .ensures
-    ∙ ap₂ AES (c .before .keys0 .ensures) (masked-is y)
-    ∙ sym (in-row (base (a .k)) (a .x) (a .p) 0 (c .before .before .if1 .left) zero ∙ E-405 (base (a .k)) (a .x) (a .p .2))
+    let a = y .before .args in
+    let K = base (a .k) in
+    let zero : a .p .1 ≡ 0 = in-row-0 (a .p) (y .before .pre .0) (c .before .before .if1 .left) in
+    under y (drop 1 (k0 K)) (c .before .keys0 .result) (c .aes4 .result) (c .before .keys0 .ensures) (c .aes4 .ensures)
+    ∙ sym (in-row K (a .x) (a .p) 0 (c .before .before .if1 .left) zero ∙ E-405 K (a .x) (a .p .2))
 
 pub e-spec : {M : Type 1} → statement M
 e-spec =
     tie.close
     (tie.spec
-    multiple-requires
-    xor-requires
-    keys10-requires
-    aes10-requires
+    (λ c κs. search needs)
+    (λ c κs. search needs)
+    (λ c κs. search needs)
     returns
-    keys0-requires
-    aes4-requires
+    (λ c κs. search needs)
+    (λ c κs. search needs)
     returns-2)

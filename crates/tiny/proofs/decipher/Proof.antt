@@ -1,5 +1,5 @@
 -- `tiny::decipher` meets its contract.
-use mathlib.Core.Path.{refl, ap, sym, _∙_}
+use mathlib.Core.Path.{_≡_, refl, ap, sym, _∙_}
 use Prim.Native.Nat.{ℕ, _*_, _≤_}
 use native.Mathlib.Omega.{arith}
 use borrow.Author.Needs.{needs}
@@ -12,8 +12,8 @@ use Rattle.laws.proofs.BlockFunction.{GivesBlocks}
 use Rattle.laws.proofs.Digits.{below-of}
 use Rattle.laws.proofs.KeyBlocks.{E-block}
 use Rattle.block.proofs.Arrays.{array-bytes}
-use Rattle.tbc.specs.Meaning.{base, OfJ}
-use Rattle.tbc.proofs.Keys.{of-j, taken-bytes}
+use Rattle.tbc.specs.Meaning.{blocks, base, OfJ}
+use Rattle.tbc.proofs.Keys.{base-bytes, has-blocks, of-j}
 use Rattle.tiny.specs.HalfBytes.{halfTurnsDown}
 use Rattle.tiny.proofs.LastBits.{lastBytes-digits}
 use Rattle.tiny.proofs.OnHalves.{decipherTiny-halfBytes}
@@ -43,9 +43,7 @@ f c = E (base (taken c .before .base .result))
 
 f-block : (c : tie.After-last-step) → GivesBlocks (f c)
 f-block c =
-    let s = known (taken c) .before in
-    let b = taken c .before .base in
-    E-block (taken-bytes (s .args .k) _ (s .good .0) (b .result) (b .ensures))
+    E-block (base-bytes (taken c .before .base .result))
 
 delta-block : (c : tie.After-last-step) → Block (known (taken c) .before .args .delta)
 delta-block c = array-bytes 16 _ _ (known (taken c) .before .good .1 .0)
@@ -53,9 +51,15 @@ delta-block c = array-bytes 16 _ _ (known (taken c) .before .good .1 .0)
 M-bytes : (c : tie.After-last-step) → Digits 8 (length (M c)) (M c)
 M-bytes c = record { len = refl; low = below-of 256 (M c) (λ i h. omega (arith, known (taken c) .slice-known .given i)) }
 
+-- the base has the key's blocks
+is-base : (c : tie.After-multiples) → base (c .before .base .result) ≡ blocks (known c .before .args .k)
+is-base c =
+    let s = known c .before in
+    has-blocks (s .args .k) _ (s .good .0) (c .before .base .result) (c .before .base .ensures)
+
 -- the multiples that are lent are those of the base
 of : (c : tie.After-multiples) → OfJ (c .before .base .result) (c .multiples .result)
-of c = let b = c .before .base in of-j (known c .before .args .k) (b .result) (c .multiples .result) (b .ensures) (c .multiples .ensures)
+of c = let b = c .before .base in of-j (known c .before .args .k) (b .result) (c .multiples .result) (is-base c) (c .multiples .ensures)
 
 base-requires : tie.Need-base-requires
 base-requires c κs = search needs
@@ -91,7 +95,7 @@ returns c =
     let long = ap length (l .last-step .ensures) ∙ lastBytes-digits (f l) (f-block l) delta (delta-block l) n some (M-bytes l) .len in
     all-turns (halfTurnsDown (f l) delta n (tinyIndex (8 * n)) (tinyRounds (8 * n))) n (both .result) (t .turns-down .result) (l .last-step .ensures) long (both .ensures) (t .turns-down .ensures) (p .put-joined .ensures)
     ∙ sym (decipherTiny-halfBytes (f l) (f-block l) delta (delta-block l) n some few (M l) (M-bytes l))
-    ∙ ap (λ (K : figure6.Key). decipherTiny (E K) delta (M l)) (taken l .before .base .ensures)
+    ∙ ap (λ (K : figure6.Key). decipherTiny (E K) delta (M l)) (is-base (taken l))
 
 pub decipher-spec : {M : Type 1} → statement M
 decipher-spec =

@@ -1,5 +1,5 @@
 -- `tiny::encipher` meets its contract.
-use mathlib.Core.Path.{refl, ap, sym, _∙_}
+use mathlib.Core.Path.{_≡_, refl, ap, sym, _∙_}
 use Prim.Native.Nat.{ℕ, _*_}
 use native.Mathlib.Omega.{arith}
 use borrow.Author.Needs.{needs}
@@ -11,8 +11,8 @@ use Rattle.paper.specs.Figure5.{tinyRounds, tinyIndex, encipherTiny}
 use Rattle.laws.proofs.Digits.{below-of}
 use Rattle.laws.proofs.KeyBlocks.{E-block}
 use Rattle.block.proofs.Arrays.{array-bytes}
-use Rattle.tbc.specs.Meaning.{base, OfJ}
-use Rattle.tbc.proofs.Keys.{of-j, taken-bytes}
+use Rattle.tbc.specs.Meaning.{blocks, base, OfJ}
+use Rattle.tbc.proofs.Keys.{base-bytes, has-blocks, of-j}
 use Rattle.tiny.specs.HalfBytes.{halfTurnsUp, lastBytes}
 use Rattle.tiny.proofs.OnHalves.{encipherTiny-halfBytes}
 use Rattle.tiny.proofs.AllTurns.{all-turns}
@@ -42,9 +42,15 @@ f c = E (base (taken c .before .base .result))
 M-bytes : (c : tie.After-turns-up) → Digits 8 (length (M c)) (M c)
 M-bytes c = record { len = refl; low = below-of 256 (M c) (λ i h. omega (arith, known (taken c) .slice-known .given i)) }
 
+-- the base has the key's blocks
+is-base : (c : tie.After-multiples) → base (c .before .base .result) ≡ blocks (known c .before .args .k)
+is-base c =
+    let s = known c .before in
+    has-blocks (s .args .k) _ (s .good .0) (c .before .base .result) (c .before .base .ensures)
+
 -- the multiples that are lent are those of the base
 of : (c : tie.After-multiples) → OfJ (c .before .base .result) (c .multiples .result)
-of c = let b = c .before .base in of-j (known c .before .args .k) (b .result) (c .multiples .result) (b .ensures) (c .multiples .ensures)
+of c = let b = c .before .base in of-j (known c .before .args .k) (b .result) (c .multiples .result) (is-base c) (c .multiples .ensures)
 
 base-requires : tie.Need-base-requires
 base-requires c κs = search needs
@@ -79,8 +85,8 @@ returns c =
     c .before .before .last-step .ensures
     ∙ ap (lastBytes (f t) (a .delta))
     (all-turns (halfTurnsUp (f t) (a .delta) n (tinyIndex (8 * n)) (tinyRounds (8 * n))) n (both .result) (t .turns-up .result) refl refl (both .ensures) (t .turns-up .ensures) (p .put-joined .ensures))
-    ∙ sym (encipherTiny-halfBytes (f t) (E-block (taken-bytes (a .k) _ (s .good .0) (b .result) (b .ensures))) (a .delta) (array-bytes 16 _ _ (s .good .1 .0)) n (omega arith) (omega arith) (M t) (M-bytes t))
-    ∙ ap (λ (K : figure6.Key). encipherTiny (E K) (a .delta) (M t)) (b .ensures)
+    ∙ sym (encipherTiny-halfBytes (f t) (E-block (base-bytes (b .result))) (a .delta) (array-bytes 16 _ _ (s .good .1 .0)) n (omega arith) (omega arith) (M t) (M-bytes t))
+    ∙ ap (λ (K : figure6.Key). encipherTiny (E K) (a .delta) (M t)) (is-base (taken t))
 
 pub encipher-spec : {M : Type 1} → statement M
 encipher-spec =

@@ -1,5 +1,5 @@
 -- `wide::all_pairs` meets its contract. The invariant: the pairs before the b-th are done, and the power is the b-th's.
-use mathlib.Core.Path.{_≡_, sym, _∙_}
+use mathlib.Core.Path.{_≡_, ap, sym, _∙_}
 use Prim.Native.Nat.{ℕ, _+_, _-_, _/_}
 use native.Mathlib.Omega.{arith}
 use borrow.Author.Needs.{needs}
@@ -7,7 +7,9 @@ use lib.ListN.{length, length-take, length-drop}
 use Rattle.paper.specs.Section7.{twoTo}
 use Rattle.paper.specs.Figure6.{E}
 use Rattle.laws.proofs.Multiples.{twoTo-zero}
+use Rattle.columns.specs.Columns.{columnsOf}
 use Rattle.tbc.specs.Meaning.{base}
+use Rattle.tbc.proofs.Keys.{base-bytes}
 use Rattle.tbc.proofs.Powers.{next}
 use Rattle.wide.specs.Pairs.{summand, newPair}
 use Rattle.wide.proofs.Passes.{Passed, begun, passed-more, passed-all}
@@ -15,7 +17,7 @@ use Rattle.wide.proofs.all_pairs.Statement.{statement}
 use Rattle.wide.proofs.all_pairs.Tie as tie
 
 abbrev Inv-loop : tie.InvT-loop
-Inv-loop k m pass sum s₀ total₀ power₀ at₀ b₀ s total power at b = Passed (newPair (E (base k)) pass sum) (summand (E (base k)) pass sum) s₀ total s at b × (power ≡ twoTo ((b - 1) / 8) (k .l))
+Inv-loop k m pass sum s₀ total₀ power₀ at₀ b₀ s total power at b = Passed (newPair (E (base k)) pass sum) (summand (E (base k)) pass sum) s₀ total s at b × (power ≡ columnsOf (twoTo ((b - 1) / 8) (base k .L)))
 
 abbrev μ-loop : tie.MeasureT-loop
 μ-loop k m pass sum s₀ total₀ power₀ at₀ b₀ s total power at b = length s₀ - at
@@ -38,7 +40,7 @@ loop-holds c =
     let s : tie.Start Inv-loop μ-loop = c .before .before in
     let a = s .args in
     let f = E (base (a .k)) in
-    (begun (newPair f (a .pass) (a .sum)) (summand f (a .pass) (a .sum)) (a .s .now) (s .pre .0), c .power .ensures ∙ sym (twoTo-zero (a .k .l)))
+    (begun (newPair f (a .pass) (a .sum)) (summand f (a .pass) (a .sum)) (a .s .now) (s .pre .0), c .power .ensures ∙ ap columnsOf (sym (twoTo-zero (base (a .k) .L))))
 
 sub-loop : tie.Need-sub-loop Inv-loop μ-loop
 sub-loop c = omega (arith, c .loop .inv .0 .same, c .loop .inv .0 .within)
@@ -86,7 +88,7 @@ loop-again c =
     let long : length (pair .last .1 .1 .1 .1 .1 .1 .0) ≡ 32 = pair .kept .1 .1 .1 .1 .1 .1 .0 ∙ simp (length-take, length-drop) (omega arith) in (
       passed-more (newPair f (a .pass) (a .sum)) (summand f (a .pass) (a .sum)) (a .s .now) (l .total) (l .s) (l .at) (l .b) n (pair .result) (pair .last .1 .1 .1 .1 .1 .1 .0) (c .before .xor .result)
           (l .inv .0) (turn c .loop-test .taken) is (pair .ensures .0) (pair .ensures .1) long (c .before .xor .ensures),
-      c .next-power .ensures ∙ next (l .b) (a .k .l) (l .power) (l .inv .0 .from1) (l .inv .1),
+      c .next-power .ensures ∙ next (l .b) (l .power) (base-bytes (a .k) .L) (l .inv .0 .from1) (l .inv .1),
     )
 
 same-length : tie.Need-same-length Inv-loop μ-loop

@@ -13,8 +13,8 @@ use Rattle.laws.proofs.Digits.{below-of}
 use Rattle.laws.proofs.KeyBlocks.{E-block}
 use Rattle.laws.proofs.CoreParts.{cut}
 use Rattle.block.proofs.Arrays.{array-bytes}
-use Rattle.tbc.specs.Meaning.{base, OfJ}
-use Rattle.tbc.proofs.Keys.{of-j, taken-bytes}
+use Rattle.tbc.specs.Meaning.{blocks, base, OfJ}
+use Rattle.tbc.proofs.Keys.{base-bytes, has-blocks, of-j}
 use Rattle.wide.specs.Ways.{firstOf, secondOf}
 use Rattle.wide.proofs.Parts.{put-length}
 use Rattle.wide.proofs.CoreWhole.{together}
@@ -53,9 +53,15 @@ passed c = first (total (ends c))
 abbrev start : tie.After-mask-uv → tie.Start
 start c = begun (taken (passed c)) .before
 
+-- the base has the key's blocks
+is-base : (c : tie.After-multiples) → base (c .before .base .result) ≡ blocks (begun c .before .args .k)
+is-base c =
+    let s = begun c .before in
+    has-blocks (s .args .k) _ (s .good .0) (c .before .base .result) (c .before .base .ensures)
+
 -- the multiples that are lent are those of the base
 of : (c : tie.After-multiples) → OfJ (c .before .base .result) (c .multiples .result)
-of c = let b = c .before .base in of-j (begun c .before .args .k) (b .result) (c .multiples .result) (b .ensures) (c .multiples .ensures)
+of c = let b = c .before .base in of-j (begun c .before .args .k) (b .result) (c .multiples .result) (is-base c) (c .multiples .ensures)
 
 -- the string, and where M_uv and M_x begin
 abbrev M : tie.Start → List ℕ
@@ -199,7 +205,7 @@ returns c =
     let a = s .args in
     let b = taken p1 .before .base in
     let K = base (b .result) in
-    let key = E-block (taken-bytes (a .k) _ (s .good .0) (b .result) (b .ensures)) in
+    let key = E-block (base-bytes (b .result)) in
     let block : Block (a .delta) = array-bytes 16 _ _ (s .good .1 .0) in
     let bytes : Digits 8 (length (M s)) (M s) = record { len = refl; low = below-of 256 (M s) (λ i h. omega (arith, begun (taken p1) .slice-known .given i)) } in
     let k : ℕ = end s - at s in
@@ -211,7 +217,7 @@ returns c =
     (m .mask-uv .last .1 .1 .1 .0) (p2 .all-pairs2 .result) (p2 .all-pairs2 .last .1 .1 .1 .1 .0) (y .with-uv2 .result) (last .put-last .last .1 .1 .1 .1 .1 .1 .0)
     (p1 .all-pairs .ensures .0) (p1 .all-pairs .ensures .1) (x .with-uv .ensures) (e .middle .ensures .0) (e .middle .ensures .1) (e .middle .ensures .2)
     (m .mask-uv .ensures) (p2 .all-pairs2 .ensures .0) (p2 .all-pairs2 .ensures .1) (y .with-uv2 .ensures) (last .put-last .ensures)
-    ∙ ap (λ (K : figure6.Key). core (E K) (a .delta) (firstOf (a .way)) (secondOf (a .way)) (M s)) (b .ensures)
+    ∙ ap (λ (K : figure6.Key). core (E K) (a .delta) (firstOf (a .way)) (secondOf (a .way)) (M s)) (is-base (taken p1))
 
 pub core-in-place-spec : {M : Type 1} → statement M
 core-in-place-spec =

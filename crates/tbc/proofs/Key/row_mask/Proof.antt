@@ -1,13 +1,15 @@
 -- `tbc::Key::row_mask` meets its contract.
-use mathlib.Core.Path.{_≡_, ap, ap₂, sym, _∙_}
+use mathlib.Core.Path.{_≡_, ap, sym, _∙_}
 use Prim.Native.Nat.{ℕ, _-_, _*_, _/_, _%_}
 use native.Mathlib.Omega.{arith}
 use borrow.Author.Needs.{needs}
-use lib.ListN.{take, drop}
-use Rattle.paper.specs.Strings.{Bytes, Block, _⊕_}
-use Rattle.paper.specs.Section7.{double, _·_}
-use Rattle.laws.proofs.KeyBlocks.{times-block}
+use Rattle.paper.specs.Strings.{Bytes, Block}
+use Rattle.paper.specs.Section7.{_·_}
+use Rattle.laws.proofs.KeyBlocks.{double-block, times-block}
 use Rattle.laws.proofs.Linear.{times-eight, times-low}
+use Rattle.columns.specs.Columns.{columnsOf}
+use Rattle.columns.proofs.Conversions.{sum-of, double-of}
+use Rattle.tbc.specs.Meaning.{fourAt}
 use Rattle.tbc.proofs.Eight.{kept}
 use Rattle.tbc.proofs.Keys.{key-bytes}
 use Rattle.tbc.proofs.Key.row_mask.Statement.{statement}
@@ -24,8 +26,8 @@ J-block : (c : tie.Start) → Block (J c)
 J-block c = key-bytes (c .args .self) _ (c .good .0) .J
 
 -- a kept multiple of 8·J
-step : (c : tie.Start) (n : ℕ) → take 16 (drop (16 * (n % 8)) (c .args .self .rows)) ≡ (n % 8) · (8 · J c)
-step c n = kept (8 · J c) (times-block 8 (J-block c)) (c .args .self .rows) (c .pre .0 .Rows) (n % 8) (omega arith)
+step : (c : tie.Start) (n : ℕ) → fourAt (c .args .self .rows) (4 * (n % 8)) ≡ columnsOf ((n % 8) · (8 · J c))
+step c n = kept (8 · J c) (c .args .self .rows) (c .pre .0 .Rows) (n % 8) (omega arith)
 
 sub-s : tie.Need-sub-s
 sub-s c = search needs
@@ -37,7 +39,7 @@ returns : tie.Need-returns
 returns c =
     let s : tie.Start = c .before .before .before .before .before in
     let small : row s % 8 ≡ row s = omega (arith, c .before .before .if1 .taken) in
-    c .multiple .ensures ∙ step s (row s) ∙ ap (λ (n : ℕ). n · (8 · J s)) small ∙ times-eight (row s) (J s) (J-block s)
+    c .multiple .ensures ∙ step s (row s) ∙ ap (λ (n : ℕ). columnsOf (n · (8 · J s))) small ∙ ap columnsOf (times-eight (row s) (J s) (J-block s))
 
 multiple-requires-2 : tie.Need-multiple-requires-2
 multiple-requires-2 c κs = search needs
@@ -64,12 +66,14 @@ returns-2 c =
     let high : tie.After-multiple2 = eight .before .before .before in
     let s : tie.Start = high .before .before .before .before .before in
     let small : row s / 8 % 8 ≡ row s / 8 = omega (arith, s .pre .2) in
-    let high-is = high .multiple2 .ensures ∙ step s (row s / 8) ∙ ap (λ (n : ℕ). n · (8 · J s)) small in
-    let eight-is = eight .double3 .ensures ∙ ap double (eight .before .double2 .ensures ∙ ap double (eight .before .before .double .ensures ∙ ap double high-is)) in
-    c .xor .ensures
-    ∙ ap₂ _⊕_ eight-is (low .multiple3 .ensures ∙ step s (row s))
-    ∙ sym (times-low (row s) (8 · J s) (times-block 8 (J-block s)))
-    ∙ times-eight (row s) (J s) (J-block s)
+    let J8 = times-block 8 (J-block s) in
+    let X = times-block (row s / 8) J8 in
+    let high-is = high .multiple2 .ensures ∙ step s (row s / 8) ∙ ap (λ (n : ℕ). columnsOf (n · (8 · J s))) small in
+    let two-is = double-of X high-is (eight .before .before .double .ensures) in
+    let four-is = double-of (double-block X) two-is (eight .before .double2 .ensures) in
+    let eight-is = double-of (double-block (double-block X)) four-is (eight .double3 .ensures) in
+    sum-of (double-block (double-block (double-block X))) (times-block (row s % 8) J8) eight-is (low .multiple3 .ensures ∙ step s (row s)) (c .xor .ensures)
+    ∙ ap columnsOf (sym (times-low (row s) (8 · J s) J8) ∙ times-eight (row s) (J s) (J-block s))
 
 pub row-mask-spec : {M : Type 1} → statement M
 row-mask-spec =
