@@ -1,0 +1,4 @@
+mod Bits
+mod Moves
+mod States
+mod Lanes

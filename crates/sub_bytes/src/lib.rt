@@ -1,0 +1,88 @@
+// SubBytes of FIPS 197 on a state of four columns, by a fixed sequence of operations and with no table: no address depends on a byte of the
+// state. The bits of the sixteen bytes are moved to planes, eight words of which word j has bit j of each byte; there the circuit of Boyar
+// and Peralta works on all bytes at once; and the bits are moved back.
+ghost use mathlib.Core.Path.{_≡_};
+ghost use Prim.Native.Nat.{_<_};
+ghost use Rattle.paper.specs.Fips197.{bit, SubBytes};
+ghost use Rattle.columns.specs.Columns.{columnsOf, blockOf};
+ghost use Rattle.sub_bytes.specs.Planes.{word, lower, upper, crossed, joinedBit, planeBytes};
+
+mod circuit;
+
+struct Pair {
+    a: u32,
+    b: u32,
+}
+
+// The bits of a where m has a 1 change places with those of b that stand n above them.
+fn exchanged(a: u32, b: u32, n: u32, m: u32) -> Pair
+    requires { ⌜ n < 32 ⌝ }
+    ensures { λ r. ⌜ (r .a ≡ word (lower n m (bit a) (bit b))) × (r .b ≡ word (upper n m (bit a) (bit b))) ⌝ }
+{
+    let t = ((b >> n) ^ a) & m;
+    Pair {
+        a: a ^ t,
+        b: b ^ (t << n),
+    }
+}
+
+// Four words turned over in each half-byte: bit w of a half-byte of word v and bit v of that half-byte of word w change places. First single
+// bits go over, between words 0 and 1 and between 2 and 3; then pairs of bits, between 0 and 2 and between 1 and 3.
+fn crossed(s: [u32; 4]) -> [u32; 4]
+    ensures { λ r. ⌜ r ≡ crossed s ⌝ }
+{
+    let s0 = s[0];
+    let s1 = s[1];
+    let s2 = s[2];
+    let s3 = s[3];
+    let p = exchanged(s1, s0, 1, 0x5555_5555);
+    let q = exchanged(s3, s2, 1, 0x5555_5555);
+    let u = exchanged(q.b, p.b, 2, 0x3333_3333);
+    let v = exchanged(q.a, p.a, 2, 0x3333_3333);
+    [u.b, v.b, u.a, v.a]
+}
+
+// A state on planes. Word w, turned over, has bit w of every byte in the low half-bytes and bit w + 4 in the high ones; what then stands in
+// the high half-bytes of a plane belongs to no byte.
+fn planes(s: [u32; 4]) -> [u32; 8]
+    ensures { λ r. ⌜ planeBytes r ≡ blockOf s ⌝ }
+{
+    let w = crossed(s);
+    [
+        w[0],
+        w[1],
+        w[2],
+        w[3],
+        w[0] >> 4,
+        w[1] >> 4,
+        w[2] >> 4,
+        w[3] >> 4,
+    ]
+}
+
+// The low half-bytes of a, and those of b as the high ones.
+fn joined(a: u32, b: u32) -> u32
+    ensures { λ r. ⌜ r ≡ word (joinedBit (bit a) (bit b)) ⌝ }
+{
+    a ^ (((b << 4) ^ a) & 0xf0f0_f0f0)
+}
+
+// The columns of a state on planes.
+fn columns(q: [u32; 8]) -> [u32; 4]
+    ensures { λ r. ⌜ blockOf r ≡ planeBytes q ⌝ }
+{
+    let w0 = joined(q[0], q[4]);
+    let w1 = joined(q[1], q[5]);
+    let w2 = joined(q[2], q[6]);
+    let w3 = joined(q[3], q[7]);
+    crossed([w0, w1, w2, w3])
+}
+
+// Each byte of the state by the S-box.
+pub fn sub_bytes(s: [u32; 4]) -> [u32; 4]
+    ensures { λ r. ⌜ r ≡ columnsOf (SubBytes (blockOf s)) ⌝ }
+{
+    let q = planes(s);
+    let r = circuit::circuit(q);
+    columns(r)
+}
