@@ -1,7 +1,6 @@
 -- The steps of a round on columns (`columns/specs/Columns`).
 use Prim.Native.Nat.{ℕ, _+_, _*_, _/_, _%_}
 use lib.Bits.{bitXor, bitAnd}
-use Rattle.paper.specs.Fips197.{sbox}
 use Rattle.columns.specs.Columns.{row0, row1, row2, row3, column}
 
 -- a column turned up by one row
@@ -18,6 +17,6 @@ mixedColumn w =
     let pairs = bitXor w (turnedUp w) in
     bitXor (doubled pairs) (turnedUp (bitXor w (turnedUp pairs)))
 
--- SubBytes and ShiftRows: the column of row 0 of a, row 1 of b, row 2 of c and row 3 of d
+-- ShiftRows: the column of row 0 of a, row 1 of b, row 2 of c and row 3 of d
 unfoldable pub shiftedColumn : ℕ → ℕ → ℕ → ℕ → ℕ
-shiftedColumn a b c d = column (sbox (row0 a)) (sbox (row1 b)) (sbox (row2 c)) (sbox (row3 d))
+shiftedColumn a b c d = column (row0 a) (row1 b) (row2 c) (row3 d)

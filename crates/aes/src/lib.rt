@@ -5,27 +5,9 @@ ghost use mathlib.Core.List.{map};
 ghost use mathlib.Core.Path.{_≡_};
 ghost use Prim.Native.Nat.{_≤_};
 ghost use lib.ListN.{length};
-ghost use Rattle.paper.specs.Strings.{tab};
-ghost use Rattle.paper.specs.Fips197.{sbox};
 ghost use Rattle.paper.specs.Section7.{aesenc, AES, AES4, AES10};
 ghost use Rattle.columns.specs.Columns.{row0, row1, row2, row3, columnsOf, blockOf};
 ghost use Rattle.aes.specs.Steps.{turnedUp, doubled, mixedColumn, shiftedColumn};
-
-mod sbox;
-
-// The table of the S-box. A call of AES4 or AES10 names it once and lends it to its rounds.
-pub fn sboxes() -> [u8; 256]
-    ensures { λ r. ⌜ r ≡ tab 256 sbox ⌝ }
-{
-    sbox::SBOX
-}
-
-fn sub(t: &[u8; 256], x: u8) -> u8
-    requires { ⌜ now t ≡ tab 256 sbox ⌝ }
-    ensures { λ r. ⌜ r ≡ sbox x ⌝ }
-{
-    t[x as usize]
-}
 
 // The bytes of a column.
 fn row0(w: u32) -> u8
@@ -76,35 +58,30 @@ fn mixed_column(w: u32) -> u32
     d ^ turned_up(w ^ two_below)
 }
 
-// SubBytes and ShiftRows for one column: a row of each of four.
-fn shifted_column(t: &[u8; 256], a: u32, b: u32, c: u32, d: u32) -> u32
-    requires { ⌜ now t ≡ tab 256 sbox ⌝ }
+// ShiftRows for one column: a row of each of four.
+fn shifted_column(a: u32, b: u32, c: u32, d: u32) -> u32
     ensures { λ r. ⌜ r ≡ shiftedColumn a b c d ⌝ }
 {
     let r0 = row0(a);
     let r1 = row1(b);
     let r2 = row2(c);
     let r3 = row3(d);
-    let s0 = sub(t, r0);
-    let s1 = sub(t, r1);
-    let s2 = sub(t, r2);
-    let s3 = sub(t, r3);
-    columns::column(s0, s1, s2, s3)
+    columns::column(r0, r1, r2, r3)
 }
 
 // One round: SubBytes, ShiftRows, MixColumns, and the key added.
-pub fn aesenc(t: &[u8; 256], s: Columns, k: Columns) -> Columns
-    requires { ⌜ now t ≡ tab 256 sbox ⌝ }
+pub fn aesenc(s: Columns, k: Columns) -> Columns
     ensures { λ r. ⌜ r ≡ columnsOf (aesenc (blockOf s) (blockOf k)) ⌝ }
 {
-    let a = s[0];
-    let b = s[1];
-    let c = s[2];
-    let d = s[3];
-    let s0 = shifted_column(t, a, b, c, d);
-    let s1 = shifted_column(t, b, c, d, a);
-    let s2 = shifted_column(t, c, d, a, b);
-    let s3 = shifted_column(t, d, a, b, c);
+    let t = sub_bytes::sub_bytes(s);
+    let a = t[0];
+    let b = t[1];
+    let c = t[2];
+    let d = t[3];
+    let s0 = shifted_column(a, b, c, d);
+    let s1 = shifted_column(b, c, d, a);
+    let s2 = shifted_column(c, d, a, b);
+    let s3 = shifted_column(d, a, b, c);
     let m0 = mixed_column(s0);
     let m1 = mixed_column(s1);
     let m2 = mixed_column(s2);
@@ -118,14 +95,13 @@ fn rounds(k: &[Columns], x: [u8; 16]) -> [u8; 16]
     requires { ⌜ 1 ≤ length (now k) ⌝ }
     ensures { λ r. ⌜ r ≡ AES (map blockOf (now (k .entry))) x ⌝ }
 {
-    let t = sboxes();
     let first = k[0];
     let text = columns::of_block(x);
     let mut s = columns::xor(text, first);
     let mut i: usize = 1;
     while i < k.len() {
         let key = k[i];
-        let y = aesenc(&t, s, key);
+        let y = aesenc(s, key);
         s = y;
         i += 1;
     }

@@ -36,7 +36,7 @@ use Rattle.columns.proofs.of_block.Reads as columns-of-block
 use Rattle.columns.proofs.to_block.Reads as columns-to-block
 use Rattle.columns.proofs.xor.Reads as columns-xor
 use Rattle.columns.proofs.double.Reads as columns-double
-use Rattle.aes.proofs.sboxes.Reads as aes-sboxes
+use Rattle.sub_bytes.proofs.sub_bytes.Reads as sub-bytes-sub-bytes
 use Rattle.aes.proofs.aesenc.Reads as aes-aesenc
 use Rattle.aes.proofs.aes4.Reads as aes-aes4
 use Rattle.aes.proofs.aes10.Reads as aes-aes10
@@ -191,10 +191,13 @@ columns-xor-determined κs a z w e f p q = one p q
 pub columns-double-determined : (κs : _) (a : _) (z w : _) (e f : _) → columns-double.Learnt κs a z e → columns-double.Learnt κs a w f → z ≡ w
 columns-double-determined κs a z w e f p q = one p q
 
--- ---- The AES round: `aes`
+-- ---- SubBytes: `sub_bytes`
 
-pub aes-sboxes-determined : (κs : _) (a : _) (z w : _) (e f : _) → aes-sboxes.Learnt κs a z e → aes-sboxes.Learnt κs a w f → z ≡ w
-aes-sboxes-determined κs a z w e f p q = one p q
+pub sub-bytes-sub-bytes-determined : (κs : _) (a : _) (z w : _) (e f : _)
+    → sub-bytes-sub-bytes.Learnt κs a z e → sub-bytes-sub-bytes.Learnt κs a w f → z ≡ w
+sub-bytes-sub-bytes-determined κs a z w e f p q = one p q
+
+-- ---- The AES round: `aes`
 
 pub aes-aesenc-determined : (κs : _) (a : _) (z w : _) (e f : _) → aes-aesenc.Learnt κs a z e → aes-aesenc.Learnt κs a w f → z ≡ w
 aes-aesenc-determined κs a z w e f p q = one p q

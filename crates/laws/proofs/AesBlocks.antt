@@ -57,7 +57,7 @@ unfolding _•_
 
 -- ---- the steps of a round
 
-sub-bytes : (s : Bytes) → Below 256 (map sbox s)
+pub sub-bytes : (s : Bytes) → Below 256 (map sbox s)
 sub-bytes [] = tt
 sub-bytes (b ∷ s) = (sbox-byte b, sub-bytes s)
 

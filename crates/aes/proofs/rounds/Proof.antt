@@ -21,10 +21,10 @@ abbrev blocks : List (List ℕ) → List Bytes
 blocks k = map blockOf k
 
 abbrev Inv-loop : tie.InvT-loop
-Inv-loop k t s₀ i₀ s i = (blockOf s ≡ rounds (take (i - 1) (drop 1 (blocks k))) (blockOf s₀)) × (1 ≤ i) × (i ≤ length k)
+Inv-loop k s₀ i₀ s i = (blockOf s ≡ rounds (take (i - 1) (drop 1 (blocks k))) (blockOf s₀)) × (1 ≤ i) × (i ≤ length k)
 
 abbrev μ-loop : tie.MeasureT-loop
-μ-loop k t s₀ i₀ s i = length k - i
+μ-loop k s₀ i₀ s i = length k - i
 
 loop-holds : tie.Need-loop-holds Inv-loop μ-loop
 unfolding rounds
@@ -32,10 +32,10 @@ loop-holds c = (refl, omega arith, omega arith)
 
 -- the loop's test, from the end of a turn, and the start
 abbrev looped : tie.After-aesenc Inv-loop μ-loop → tie.At-loop Inv-loop μ-loop
-looped c = c .before .before .before .before
+looped c = c .before .before .before
 
 abbrev start : tie.After-xor Inv-loop μ-loop → tie.Start Inv-loop μ-loop
-start c = c .before .before .before .before
+start c = c .before .before .before
 
 -- the state with the first key added
 first : (c : tie.After-xor Inv-loop μ-loop) → blockOf (c .xor .result) ≡ start c .args .x ⊕ getD (blocks (start c .args .k .now)) 0 (blockOf [])
@@ -76,7 +76,6 @@ rounds-spec =
     (tie.spec
     Inv-loop
     μ-loop
-    (λ c κs. search needs)
     (λ c. search needs)
     (λ c κs. search needs)
     (λ c κs. search needs)
