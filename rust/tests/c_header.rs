@@ -1,7 +1,8 @@
 //! The C header: a C program that includes it compiles without a warning, links
 //! the library, and gets the known values.
 
-use std::path::Path;
+mod c_program;
+
 use std::process::Command;
 
 use second::document01;
@@ -9,21 +10,7 @@ use support::{counting, hex};
 
 #[test]
 fn a_c_program_links_the_library() {
-    let package = Path::new(env!("CARGO_MANIFEST_DIR"));
-    let program = Path::new(env!("CARGO_TARGET_TMPDIR")).join("c_header");
-    let compiled = Command::new("cc")
-        .args(["-std=c99", "-Wall", "-Wextra", "-Wpedantic", "-Werror"])
-        .arg("-I")
-        .arg(package.join("include"))
-        .arg(package.join("tests/c_header.c"))
-        .arg(env!("AEZ_LIBRARY"))
-        .arg("-o")
-        .arg(&program)
-        .output()
-        .expect("the C compiler cc starts");
-    let messages = String::from_utf8_lossy(&compiled.stderr);
-    assert!(compiled.status.success(), "{messages}");
-
+    let program = c_program::compiled("c_header");
     let run = Command::new(&program).output().expect("the program starts");
     assert!(run.status.success(), "{}", run.status);
     let expected = "\
