@@ -18,7 +18,8 @@ use Rattle.day.specs.declared.Listed.{Listed}
 use Rattle.day.specs.Lists.{listingAs}
 use Rattle.columns.specs.Columns.{columnsOf}
 use Rattle.tbc.specs.declared.Key.{Key}
-use Rattle.tbc.specs.Meaning.{blocks, multiples, Kept}
+use Rattle.tbc.specs.Meaning.{blocks, Kept}
+use Rattle.multiples.specs.Eight.{multiples}
 use Rattle.block.proofs.xor.Reads as block-xor
 use Rattle.block.proofs.pad.Reads as block-pad
 use Rattle.block.proofs.number.Reads as block-number
@@ -40,6 +41,8 @@ use Rattle.sub_bytes.proofs.sub_bytes.Reads as sub-bytes-sub-bytes
 use Rattle.aes.proofs.aesenc.Reads as aes-aesenc
 use Rattle.aes.proofs.aes4.Reads as aes-aes4
 use Rattle.aes.proofs.aes10.Reads as aes-aes10
+use Rattle.multiples.proofs.multiples.Reads as multiples-multiples
+use Rattle.multiples.proofs.multiple.Reads as multiples-multiple
 use Rattle.tbc.proofs.key_of.Reads as tbc-key-of
 use Rattle.tbc.proofs.Pair.table.Reads as tbc-pair-table
 use Rattle.tbc.proofs.Pair.at.Reads as tbc-pair-at
@@ -207,6 +210,14 @@ aes-aes4-determined κs a z w e f p q = one p q
 
 pub aes-aes10-determined : (κs : _) (a : _) (z w : _) (e f : _) → aes-aes10.Learnt κs a z e → aes-aes10.Learnt κs a w f → z ≡ w
 aes-aes10-determined κs a z w e f p q = one p q
+
+-- ---- Multiples of a block: `multiples`
+
+pub multiples-multiples-determined : (κs : _) (a : _) (z w : _) (e f : _) → multiples-multiples.Learnt κs a z e → multiples-multiples.Learnt κs a w f → z ≡ w
+multiples-multiples-determined κs a z w e f p q = one p q
+
+pub multiples-multiple-determined : (κs : _) (a : _) (z w : _) (e f : _) → multiples-multiple.Learnt κs a z e → multiples-multiple.Learnt κs a w f → z ≡ w
+multiples-multiple-determined κs a z w e f p q = one p q
 
 -- ---- The block function: `tbc`
 

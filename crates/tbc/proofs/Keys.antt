@@ -13,7 +13,8 @@ use Rattle.block.proofs.Arrays.{array-bytes}
 use Rattle.columns.proofs.Conversions.{columns-block, blockOf-block}
 use Rattle.tbc.specs.declared.Key.{Key}
 use Rattle.tbc.specs.declared.Base.{Base}
-use Rattle.tbc.specs.Meaning.{blocks, base, baseOf, multiples, OfJ}
+use Rattle.tbc.specs.Meaning.{blocks, base, baseOf, OfJ}
+use Rattle.multiples.specs.Eight.{multiples}
 use Rattle.tbc.proofs.Key as key
 
 field-bytes : (X : List ℕ) → Block (map (λ (x : ℕ). x) X) → Block X

@@ -1,4 +1,3 @@
-mod Eight
 mod Masks
 pub mod Powers
 pub mod Pairs

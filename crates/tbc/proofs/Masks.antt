@@ -13,10 +13,11 @@ use Rattle.laws.proofs.KeyBlocks.{times-block, twoTo-block}
 use Rattle.laws.proofs.Round.{AES-mask}
 use Rattle.columns.specs.Columns.{columnsOf, blockOf}
 use Rattle.columns.proofs.Conversions.{made, sum-of}
-use Rattle.tbc.specs.Meaning.{base, fourAt, OfJ, rowOf, Plain, Running}
+use Rattle.tbc.specs.Meaning.{base, OfJ, rowOf, Plain, Running}
+use Rattle.multiples.specs.Eight.{fourAt}
 use Rattle.tbc.specs.declared.Base.{Base}
 use Rattle.tbc.specs.declared.Pair.{Pair}
-use Rattle.tbc.proofs.Eight.{kept}
+use Rattle.multiples.proofs.Kept.{kept}
 use Rattle.tbc.proofs.Keys.{base-bytes}
 
 pub row-of : (p : Pair) (n : ℕ) → p .0 ≡ false → p .1 ≡ n → rowOf p ≡ row n

@@ -11,6 +11,7 @@ use Rattle.paper.specs.Figure6 as figure6
 use Rattle.paper.specs.Figure6.{Row, minus1, row}
 use Rattle.paper.specs.Document01.{Use, a, aᵢ, aaᵢ, x, y, xx, yy, u, v, uu, vv, tiny, tinyLast, prf, hash, indices}
 use Rattle.columns.specs.Columns.{columnsOf, blockOf}
+use Rattle.multiples.specs.Eight.{multiples}
 use Rattle.tbc.specs.declared.Key.{Key}
 use Rattle.tbc.specs.declared.Base.{Base}
 use Rattle.tbc.specs.declared.Pair.{Pair}
@@ -24,14 +25,6 @@ base k = record { I = blockOf (k .i); J = blockOf (k .j); L = blockOf (k .l) }
 
 abbrev pub baseOf : figure6.Key → Base
 baseOf K = record { i = columnsOf (K .I); j = columnsOf (K .J); l = columnsOf (K .L) }
-
--- 0·X to 7·X as columns, one after the other
-unfoldable pub multiples : Bytes → List ℕ
-multiples X = join 8 (λ n. columnsOf ((n - 1) · X))
-
--- the four numbers of m from place n on
-abbrev pub fourAt : List ℕ → ℕ → List ℕ
-fourAt m n = getD m n 0 ∷ getD m (n + 1) 0 ∷ getD m (n + 2) 0 ∷ getD m (n + 3) 0 ∷ []
 
 -- each block that the record keeps is its multiple of I, J or L: those that request E7 names, and those that Figure 6 reads
 pub record Kept (k : Key) : Type 0 where

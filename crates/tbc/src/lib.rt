@@ -9,7 +9,8 @@ ghost use Rattle.paper.specs.Strings.{_⊕_};
 ghost use Rattle.paper.specs.Section7.{_·_};
 ghost use Rattle.paper.specs.Figure6.{keyOf, k0, k1, k2, K10, E};
 ghost use Rattle.columns.specs.Columns.{columnsOf, blockOf};
-ghost use Rattle.tbc.specs.Meaning.{blocks, base, baseOf, multiples, fourAt, Kept, OfJ, pair, indexPairs, rowOf, nextPower, Plain, Running, Hashing};
+ghost use Rattle.multiples.specs.Eight.{multiples, fourAt};
+ghost use Rattle.tbc.specs.Meaning.{blocks, base, baseOf, Kept, OfJ, pair, indexPairs, rowOf, nextPower, Plain, Running, Hashing};
 
 // The key: the blocks I, J and L, and the multiples of them that are kept, as columns. Only `key_of` makes one, and nothing changes it: each
 // kept block is its multiple from then on (`Meaning.Kept`). 2·I, 2·J and the multiples of L are kept because request E7 names them; what
@@ -34,60 +35,6 @@ pub struct Base {
     l: Columns,
 }
 
-// 0·x to 7·x, by section 7's rules: 2n·x is 2·(n·x), and (2n + 1)·x is 2n·x ⊕ x.
-fn multiples(x: Columns) -> [u32; 32]
-    ensures { λ r. ⌜ r ≡ multiples (blockOf x) ⌝ }
-{
-    let two = columns::double(x);
-    let three = columns::xor(two, x);
-    let four = columns::double(two);
-    let five = columns::xor(four, x);
-    let six = columns::double(three);
-    let seven = columns::xor(six, x);
-    [
-        0,
-        0,
-        0,
-        0,
-        x[0],
-        x[1],
-        x[2],
-        x[3],
-        two[0],
-        two[1],
-        two[2],
-        two[3],
-        three[0],
-        three[1],
-        three[2],
-        three[3],
-        four[0],
-        four[1],
-        four[2],
-        four[3],
-        five[0],
-        five[1],
-        five[2],
-        five[3],
-        six[0],
-        six[1],
-        six[2],
-        six[3],
-        seven[0],
-        seven[1],
-        seven[2],
-        seven[3],
-    ]
-}
-
-// Of eight blocks the one that n mod 8 counts from 0.
-fn multiple(m: &[u32; 32], n: u32) -> Columns
-    ensures { λ r. ⌜ r ≡ fourAt (now (m .entry)) (4 * (n % 8)) ⌝ }
-{
-    let at = 4 * ((n % 8) as usize);
-    [m[at], m[at + 1], m[at + 2], m[at + 3]]
-}
-
 // The record of I, J and L.
 fn record_of(i: [u8; 16], j: [u8; 16], l: [u8; 16]) -> Key
     ensures { λ r. ⌜ (r .i ≡ i) × (r .j ≡ j) × (r .l ≡ l) × Kept r ⌝ }
@@ -95,13 +42,13 @@ fn record_of(i: [u8; 16], j: [u8; 16], l: [u8; 16]) -> Key
     let of_i = columns::of_block(i);
     let i2 = columns::double(of_i);
     let of_l = columns::of_block(l);
-    let ls = multiples(of_l);
+    let ls = multiples::multiples(of_l);
     let of_j = columns::of_block(j);
-    let js = multiples(of_j);
-    let j2 = multiple(&js, 2);
-    let j4 = multiple(&js, 4);
+    let js = multiples::multiples(of_j);
+    let j2 = multiples::multiple(&js, 2);
+    let j4 = multiples::multiple(&js, 4);
     let j8 = columns::double(j4);
-    let rows = multiples(j8);
+    let rows = multiples::multiples(j8);
     Key {
         i,
         j,
@@ -156,13 +103,13 @@ impl Key {
         let rows = self.rows;
         let s = p.1 - 2;
         if s < 8 {
-            return multiple(&rows, s);
+            return multiples::multiple(&rows, s);
         }
-        let high = multiple(&rows, s / 8);
+        let high = multiples::multiple(&rows, s / 8);
         let two = columns::double(high);
         let four = columns::double(two);
         let eight = columns::double(four);
-        let low = multiple(&rows, s);
+        let low = multiples::multiple(&rows, s);
         columns::xor(eight, low)
     }
 }
@@ -307,7 +254,7 @@ pub fn next_power(b: u32, power: Columns) -> Columns
 fn running_mask(m: &[u32; 32], b: u32, power: Columns) -> Columns
     ensures { λ r. ⌜ r ≡ columnsOf (blockOf (fourAt (now (m .entry)) (4 * (b % 8))) ⊕ blockOf power) ⌝ }
 {
-    let low = multiple(m, b);
+    let low = multiples::multiple(m, b);
     columns::xor(low, power)
 }
 
@@ -317,7 +264,7 @@ pub fn e(k: Base, m: &[u32; 32], p: Pair, x: [u8; 16]) -> [u8; 16]
     ensures { λ r. ⌜ r ≡ E (base k) (rowOf p) (p .2) x ⌝ }
 {
     let number = p.2;
-    let of_j = multiple(m, number);
+    let of_j = multiples::multiple(m, number);
     if p.0 {
         let keys = keys10(k, of_j);
         return aes::aes10(keys, x);

@@ -10,8 +10,8 @@ use Rattle.laws.proofs.Multiples.{times-even}
 use Rattle.block.proofs.Arrays.{array-bytes}
 use Rattle.columns.specs.Columns.{columnsOf}
 use Rattle.columns.proofs.Conversions.{made, double-of}
-use Rattle.tbc.specs.Meaning.{multiples}
-use Rattle.tbc.proofs.Eight.{kept}
+use Rattle.multiples.specs.Eight.{multiples}
+use Rattle.multiples.proofs.Kept.{kept}
 use Rattle.tbc.proofs.record_of.Statement.{statement}
 use Rattle.tbc.proofs.record_of.Tie as tie
 

@@ -9,8 +9,8 @@ use Rattle.laws.proofs.KeyBlocks.{double-block, times-block}
 use Rattle.laws.proofs.Linear.{times-eight, times-low}
 use Rattle.columns.specs.Columns.{columnsOf}
 use Rattle.columns.proofs.Conversions.{sum-of, double-of}
-use Rattle.tbc.specs.Meaning.{fourAt}
-use Rattle.tbc.proofs.Eight.{kept}
+use Rattle.multiples.specs.Eight.{fourAt}
+use Rattle.multiples.proofs.Kept.{kept}
 use Rattle.tbc.proofs.Keys.{key-bytes}
 use Rattle.tbc.proofs.Key.row_mask.Statement.{statement}
 use Rattle.tbc.proofs.Key.row_mask.Tie as tie

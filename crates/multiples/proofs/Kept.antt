@@ -11,7 +11,7 @@ use Rattle.paper.specs.Section7.{_·_}
 use Rattle.laws.proofs.Joins.{join-at}
 use Rattle.laws.proofs.Tables.{tab-entries}
 use Rattle.columns.specs.Columns.{columnsOf}
-use Rattle.tbc.specs.Meaning.{multiples, fourAt}
+use Rattle.multiples.specs.Eight.{multiples, fourAt}
 
 -- the multiples, counted from 1 as a join counts
 abbrev times : Bytes → ℕ → List ℕ

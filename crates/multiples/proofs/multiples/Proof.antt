@@ -1,4 +1,4 @@
--- `tbc::multiples` meets its contract.
+-- `multiples::multiples` meets its contract.
 use mathlib.Core.List.{List, [], _∷_}
 use mathlib.Core.Path.{_≡_, refl, ap, sym, _∙_}
 use Prim.Native.Nat.{ℕ, _+_, _/_, _%_, _≤_}
@@ -13,9 +13,9 @@ use Rattle.laws.proofs.Multiples.{times-zero, times-one, times-even, times-odd}
 use Rattle.block.proofs.Arrays.{array-digits}
 use Rattle.columns.specs.Columns.{columnsOf, blockOf}
 use Rattle.columns.proofs.Conversions.{block-columns, blockOf-block, sum-of, double-of}
-use Rattle.tbc.specs.Meaning.{multiples}
-use Rattle.tbc.proofs.multiples.Statement.{statement}
-use Rattle.tbc.proofs.multiples.Tie as tie
+use Rattle.multiples.specs.Eight.{multiples}
+use Rattle.multiples.proofs.multiples.Statement.{statement}
+use Rattle.multiples.proofs.multiples.Tie as tie
 
 module _ (X : Bytes) (p : Block X) where
   none : 0 ∷ 0 ∷ 0 ∷ 0 ∷ [] ≡ columnsOf (0 · X)

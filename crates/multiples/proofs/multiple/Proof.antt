@@ -1,8 +1,8 @@
--- `tbc::multiple` meets its contract.
+-- `multiples::multiple` meets its contract.
 use mathlib.Core.Path.{refl}
 use borrow.Author.Needs.{needs}
-use Rattle.tbc.proofs.multiple.Statement.{statement}
-use Rattle.tbc.proofs.multiple.Tie as tie
+use Rattle.multiples.proofs.multiple.Statement.{statement}
+use Rattle.multiples.proofs.multiple.Tie as tie
 
 returns : tie.Need-returns
 returns c = refl
