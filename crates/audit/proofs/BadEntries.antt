@@ -11,7 +11,7 @@ use lib.ListN.{length}
 use Rattle.paper.specs.Strings.{Bytes}
 use Rattle.paper.specs.Figure6.{keyOf, E}
 use Rattle.paper.specs.Figure5.{decrypt}
-use Rattle.paper.specs.Document01.{OutcomeAt, beside, refused, Read, asStrings, badEntry, reading, told, longestStretch, sealUnder, sealing, opened, openUnder, opening}
+use Rattle.paper.specs.Document01.{beside, refused, Read, asStrings, badEntry, reading, told, sealUnder, sealing, opened, openUnder, opening}
 use Rattle.laws.proofs.BadEntries.{number-most}
 use Rattle.record.proofs.Settles.{sealing-in, opening-in}
 use Rattle.aez.proofs.aez_seal_at.Reads as aez-seal-at

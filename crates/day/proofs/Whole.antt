@@ -16,7 +16,6 @@ use Rattle.laws.proofs.Digits.{below-drop}
 use Rattle.laws.proofs.Sealing.{same-equal}
 use Rattle.laws.proofs.DayWritten.{first-place, places-many, places-long}
 use Rattle.laws.proofs.DayReading.{IfHeaders, HeadersWritten, headers-written, IfRecords, RecordsWritten, records-written}
-use Rattle.day.specs.declared.Checked.{Checked}
 use Rattle.day.specs.declared.Checked.the-variants as checked
 use Rattle.day.specs.Walks.{indexFrom, rightIndex, checkedAs}
 

@@ -7,7 +7,7 @@ use lib.ListN.{length, take, drop, length-append, length-drop, take-append-drop}
 use lib.Seq.{length-take-le, take-at, drop-at, drop-drop, drop-append-add}
 use Rattle.paper.specs.Strings.{Bytes, Below, digits}
 use Rattle.paper.specs.Document01.{writeStrings}
-use Rattle.paper.specs.DayFile.{Record, Day, writeRecord, writeRecords, writeHeaders, firstPlace, placesFrom, writePlaces, writeIndex, writeDay, readDay}
+use Rattle.paper.specs.DayFile.{Record, Day, writeRecord, writeRecords, writeHeaders, firstPlace, placesFrom, writePlaces, writeIndex, writeDay}
 use Rattle.paper.specs.DayEdits.{headersWith, grown}
 use Rattle.laws.proofs.BitStrings.{length-digits}
 use Rattle.laws.proofs.Digits.{below-take}
@@ -20,7 +20,8 @@ use Rattle.day_place.specs.Walked.{endOf, placesOf}
 use Rattle.day_place.proofs.Moved.{put-between}
 use Rattle.day_place.proofs.Walk.{walk-ends, walk-places, places-count}
 use Rattle.day_write.specs.Written.{recordWith}
-use Rattle.day_append.specs.Appended.{Rows, lastWritten, Ready, grownFile}
+use Rattle.day_append.specs.Appended.{Rows, lastWritten, Ready}
+use Rattle.day_append.proofs.Lent.{Lent, lastOf, Brought}
 
 -- ---- Parts put into a buffer
 
@@ -96,8 +97,40 @@ module _ {f : Bytes} {first records : ℕ} (rows : Rows f first records) (r : Re
 
 -- ---- The call's buffer
 
-module _ (B : Bytes) (low : Below 256 B) (size headers records first number : ℕ) (header : Bytes) (stretch : ℕ) (sealed : Bytes)
-    (ready : Ready B size headers records first number header stretch sealed) where
+module _ (l : Lent) where
+  abbrev B : Bytes
+  B = l .buffer
+
+  abbrev low : Below 256 B
+  low = l .low
+
+  abbrev size : ℕ
+  size = l .size
+
+  abbrev headers : ℕ
+  headers = l .headers
+
+  abbrev records : ℕ
+  records = l .records
+
+  abbrev first : ℕ
+  first = l .first
+
+  abbrev number : ℕ
+  number = l .number
+
+  abbrev header : Bytes
+  header = l .header
+
+  abbrev stretch : ℕ
+  stretch = l .stretch
+
+  abbrev sealed : Bytes
+  sealed = l .sealed
+
+  abbrev ready : Ready B size headers records first number header stretch sealed
+  ready = l .ready
+
   abbrev day : Day
   day = ready .day
 
@@ -154,7 +187,7 @@ module _ (B : Bytes) (low : Below 256 B) (size headers records first number : �
 
   -- where the records end
   abbrev last : ℕ
-  last = size - 4 - 4 * records
+  last = lastOf l
 
   pub last-is : last ≡ first + length R
   last-is = omega (arith, size-is)
@@ -358,12 +391,14 @@ module _ (B : Bytes) (low : Below 256 B) (size headers records first number : �
         ∙ drop-append-add (c ++ H) Z₀ (length S + length M + n))
 
     -- the buffer after the header is brought
-    module _ (out₁ out₂ out₃ : Bytes) (first-put : out₁ ≡ placed (first - 4 + more) (take (last - (first - 4)) (drop (first - 4) B)) B)
-        (second-put : out₂ ≡ placed (first - 4) S out₁) (third-put : out₃ ≡ placed 0 c′ out₂) (kept : length out₃ ≡ length B) where
+    module _ (b : Brought l) where
+      abbrev out₃ : Bytes
+      out₃ = b .out
+
       brought-is : out₃ ≡ P ++ (d ++ (R ++ Z′))
       brought-is =
-          third-put
-          ∙ ap (placed 0 c′) (second-put ∙ ap (placed (first - 4) S) (first-put ∙ (λ i. placed (first - 4 + sym S-long i) (moved i) (old i))))
+          b .out-is
+          ∙ ap (placed 0 c′) (b .headed-is ∙ ap (placed (first - 4) S) (b .moved-is ∙ (λ i. placed (first - 4 + sym S-long i) (moved i) (old i))))
           ∙ brought c H M Z₀ c′ S (first - 4) old-long (length-digits 256 4 (length hs) ∙ sym (length-digits 256 4 (headers + 1))) room
           ∙ sym (append-assoc c′ (H ++ S) (d ++ (R ++ Z′)) ∙ ap (λ (X : Bytes). c′ ++ X) (append-assoc H S (d ++ (R ++ Z′)) ∙ ap (λ (X : Bytes). H ++ (S ++ X)) (sym (append-assoc d R Z′))))
 
@@ -371,14 +406,14 @@ module _ (B : Bytes) (low : Below 256 B) (size headers records first number : �
       at-next = omega (arith, last-is)
 
       pub next-rows : Rows (take (last + more) out₃) (first + more) records
-      next-rows = rows P heads-next (first + more) (last + more) P-long at-next out₃ Z′ brought-is kept tail-next
+      next-rows = rows P heads-next (first + more) (last + more) P-long at-next out₃ Z′ brought-is (b .kept) tail-next
 
       pub next-short : last + more + 11 + length sealed + 4 + 4 * records ≤ 65536
-      next-short = fits-file P heads-next (first + more) (last + more) P-long at-next out₃ Z′ brought-is kept tail-next
+      next-short = fits-file P heads-next (first + more) (last + more) P-long at-next out₃ Z′ brought-is (b .kept) tail-next
 
       pub next-room : last + more + 11 + length sealed + 4 + 4 * records ≤ length out₃
-      next-room = fits-buffer P heads-next (first + more) (last + more) P-long at-next out₃ Z′ brought-is kept tail-next
+      next-room = fits-buffer P heads-next (first + more) (last + more) P-long at-next out₃ Z′ brought-is (b .kept) tail-next
 
       pub next-closes : (exit : Bytes) → exit ≡ placed (first + more - 4) d′ (placed (last + more) (lastWritten (take (last + more) out₃) (first + more) records new) out₃)
           → exit ≡ placed 0 (writeDay after) B
-      next-closes = closes P heads-next (first + more) (last + more) P-long at-next out₃ Z′ brought-is kept tail-next
+      next-closes = closes P heads-next (first + more) (last + more) P-long at-next out₃ Z′ brought-is (b .kept) tail-next

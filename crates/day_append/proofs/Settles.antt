@@ -1,6 +1,6 @@
 -- What an append settles before it writes, and the answers of the call.
 use mathlib.Core.Bool.{Bool, true, false, _&&_, _||_, not}
-use mathlib.Core.List.{List, _++_}
+use mathlib.Core.List.{_++_}
 use mathlib.Core.Option.{Option, none, some}
 use mathlib.Core.Path.{_≡_, refl, ap, sym, _∙_}
 use Prim.Native.Nat.{ℕ, _+_, _≤_, _<_}
@@ -9,9 +9,9 @@ use borrow.Author.Tests.{ltb-true, ltb-false, lt-ltb, le-ltb, le-leb, lt-leb, eq
 use lib.Dec.{eqb, leb, ltb}
 use lib.ListN.{length, take, drop, length-append}
 use lib.Seq.{length-take-le, take-at}
-use Rattle.paper.specs.Strings.{Bytes, Below, if_then_else_}
+use Rattle.paper.specs.Strings.{Bytes, if_then_else_}
 use Rattle.paper.specs.Document01.{reading, Outcome, refused}
-use Rattle.paper.specs.DayFile.{Day, writeDay, longestFile, present, headerFits, readDay}
+use Rattle.paper.specs.DayFile.{Day, writeDay, longestFile, headerFits, readDay}
 use Rattle.paper.specs.DayEdits.{grown, appendFits, appendIn, appending}
 use Rattle.laws.proofs.Digits.{below-take}
 use Rattle.laws.proofs.DayReading.{read-write}
@@ -24,6 +24,7 @@ use Rattle.day.specs.declared.Checked.the-variants as checked
 use Rattle.day.specs.Walks.{checkedAs}
 use Rattle.day_place.proofs.Held.{Counted}
 use Rattle.day_append.specs.Appended.{capped, taken, Ready, grownFile}
+use Rattle.day_append.proofs.Lent.{Asked}
 
 -- ---- What is put
 
@@ -97,81 +98,118 @@ module _ (B : Bytes) (size number : ℕ) (header : Bytes) (stretch : ℕ) (seale
       go none e = refl
       go (some day) e = cc
 
-  module _ (low : Below 256 B) (within : size ≤ length B) (headers records first : ℕ) (k : Counted (take size B) headers records first) where
-    abbrev after : Day
-    after = grown number header stretch sealed (k .day)
+-- where the file reads
+module _ (q : Asked) where
+  abbrev B : Bytes
+  B = q .buffer
 
-    file-long : length (writeDay (k .day)) ≡ size
-    file-long = ap length (read-write (take size B) (k .day) (below-take 256 size B low) (k .reads) .bytes) ∙ length-take-le size B within
+  abbrev size : ℕ
+  size = q .size
 
-    pub size-short : size ≤ 65536
-    size-short = omega (arith, file-long, read-write (take size B) (k .day) (below-take 256 size B low) (k .reads) .within .short)
+  abbrev number : ℕ
+  number = q .number
 
-    abbrev total : ℕ
-    total = size + taken number header headers + 11 + length sealed
+  abbrev header : Bytes
+  header = q .header
 
-    total-is : length (writeDay after) ≡ total
-    total-is =
-        grown-long number header stretch sealed (k .day)
-        ∙ (λ i. file-long i + taken number header (sym (k .headers-are) i) + 11 + length sealed)
+  abbrev stretch : ℕ
+  stretch = q .stretch
 
-    abbrev by : Bool → Bool → Bool → Outcome
-    by a b c =
-        if not a then refused 9 B
-        else if b then refused 6 B
-        else if c then refused 6 B
-        else record { number = 0; size = length (writeDay after); output = writeDay after ++ drop (length (writeDay after)) B }
+  abbrev sealed : Bytes
+  sealed = q .sealed
 
-    by-tests-three : {a b c : Bool} → appendFits number header stretch headers ≡ a → ltb longestFile (length (writeDay after)) ≡ b → ltb (length B) (length (writeDay after)) ≡ c → by a b c ≡ called
-    unfolding appendIn
-    by-tests-three p q r =
-        (λ i. by (sym p i) (sym q i) (sym r i))
-        ∙ ap (λ (n : ℕ). by (appendFits number header stretch n) (ltb longestFile (length (writeDay after))) (ltb (length B) (length (writeDay after)))) (k .headers-are)
-        ∙ sym (ap (λ (o : Option Day). appendIn o number header stretch sealed B) (k .reads))
-        ∙ inside within
+  abbrev headers : ℕ
+  headers = q .headers
 
-    pub unfit : false ≡ appendFits number header stretch headers → refused 9 B ≡ called
-    unfit e = by-tests-three (sym e) refl refl
+  abbrev records : ℕ
+  records = q .records
 
-    module _ (fit : true ≡ appendFits number header stretch headers) (n : ℕ) (sized : n ≡ capped total) where
-      pub too-long : 65536 < n → refused 6 B ≡ called
-      too-long p = by-tests-three (sym fit) (lt-ltb 65536 (length (writeDay after)) (go (ltb 65536 total) refl)) refl
+  abbrev first : ℕ
+  first = q .first
+
+  abbrev within : size ≤ length B
+  within = q .inside
+
+  abbrev k : Counted (take size B) headers records first
+  k = q .counted
+
+  abbrev answered : Outcome
+  answered = appending B size number header stretch sealed
+
+  abbrev after : Day
+  after = grown number header stretch sealed (k .day)
+
+  file-long : length (writeDay (k .day)) ≡ size
+  file-long = ap length (read-write (take size B) (k .day) (below-take 256 size B (q .low)) (k .reads) .bytes) ∙ length-take-le size B within
+
+  pub size-short : size ≤ 65536
+  size-short = omega (arith, file-long, read-write (take size B) (k .day) (below-take 256 size B (q .low)) (k .reads) .within .short)
+
+  abbrev total : ℕ
+  total = size + taken number header headers + 11 + length sealed
+
+  total-is : length (writeDay after) ≡ total
+  total-is =
+      grown-long number header stretch sealed (k .day)
+      ∙ (λ i. file-long i + taken number header (sym (k .headers-are) i) + 11 + length sealed)
+
+  abbrev by : Bool → Bool → Bool → Outcome
+  by a b c =
+      if not a then refused 9 B
+      else if b then refused 6 B
+      else if c then refused 6 B
+      else record { number = 0; size = length (writeDay after); output = writeDay after ++ drop (length (writeDay after)) B }
+
+  by-tests-three : {a b c : Bool} → appendFits number header stretch headers ≡ a → ltb longestFile (length (writeDay after)) ≡ b → ltb (length B) (length (writeDay after)) ≡ c → by a b c ≡ answered
+  unfolding appendIn
+  by-tests-three p q r =
+      (λ i. by (sym p i) (sym q i) (sym r i))
+      ∙ ap (λ (n : ℕ). by (appendFits number header stretch n) (ltb longestFile (length (writeDay after))) (ltb (length B) (length (writeDay after)))) (k .headers-are)
+      ∙ sym (ap (λ (o : Option Day). appendIn o number header stretch sealed B) (k .reads))
+      ∙ inside B size number header stretch sealed within
+
+  pub unfit : false ≡ appendFits number header stretch headers → refused 9 B ≡ answered
+  unfit e = by-tests-three (sym e) refl refl
+
+  module _ (fit : true ≡ appendFits number header stretch headers) (n : ℕ) (sized : n ≡ capped total) where
+    pub too-long : 65536 < n → refused 6 B ≡ answered
+    too-long p = by-tests-three (sym fit) (lt-ltb 65536 (length (writeDay after)) (go (ltb 65536 total) refl)) refl
+      where
+        go : (b : Bool) → ltb 65536 total ≡ b → 65536 < length (writeDay after)
+        go true e = omega (arith, ltb-true 65536 total e, total-is)
+        go false e = absurd (omega (arith, p, sized ∙ ap (λ (b : Bool). if b then 65537 else total) e, ltb-false 65536 total e))
+
+    module _ (short : n ≤ 65536) where
+      pub n-is : n ≡ length (writeDay after)
+      n-is = go (ltb 65536 total) refl
         where
-          go : (b : Bool) → ltb 65536 total ≡ b → 65536 < length (writeDay after)
-          go true e = omega (arith, ltb-true 65536 total e, total-is)
-          go false e = absurd (omega (arith, p, sized ∙ ap (λ (b : Bool). if b then 65537 else total) e, ltb-false 65536 total e))
+          go : (b : Bool) → ltb 65536 total ≡ b → n ≡ length (writeDay after)
+          go true e = absurd (omega (arith, short, sized ∙ ap (λ (b : Bool). if b then 65537 else total) e))
+          go false e = sized ∙ ap (λ (b : Bool). if b then 65537 else total) e ∙ sym total-is
 
-      module _ (short : n ≤ 65536) where
-        pub n-is : n ≡ length (writeDay after)
-        n-is = go (ltb 65536 total) refl
-          where
-            go : (b : Bool) → ltb 65536 total ≡ b → n ≡ length (writeDay after)
-            go true e = absurd (omega (arith, short, sized ∙ ap (λ (b : Bool). if b then 65537 else total) e))
-            go false e = sized ∙ ap (λ (b : Bool). if b then 65537 else total) e ∙ sym total-is
+      file-short : ltb longestFile (length (writeDay after)) ≡ false
+      file-short = le-ltb 65536 (length (writeDay after)) (omega (arith, n-is, short))
 
-        file-short : ltb longestFile (length (writeDay after)) ≡ false
-        file-short = le-ltb 65536 (length (writeDay after)) (omega (arith, n-is, short))
+      pub no-room : length B < n → refused 6 B ≡ answered
+      no-room p = by-tests-three (sym fit) file-short (lt-ltb (length B) (length (writeDay after)) (omega (arith, n-is, p)))
 
-        pub no-room : length B < n → refused 6 B ≡ called
-        no-room p = by-tests-three (sym fit) file-short (lt-ltb (length B) (length (writeDay after)) (omega (arith, n-is, p)))
+      module _ (room : n ≤ length B) where
+        pub ready : Ready B size headers records first number header stretch sealed
+        ready = record {
+          day = k .day;
+          inside = within;
+          reads = k .reads;
+          headers-are = k .headers-are;
+          records-are = k .records-are;
+          first-is = k .first-is;
+          fit = sym fit;
+          short = omega (arith, n-is, short);
+          room = omega (arith, n-is, room);
+        }
 
-        module _ (room : n ≤ length B) where
-          pub ready : Ready B size headers records first number header stretch sealed
-          ready = record {
-            day = k .day;
-            inside = within;
-            reads = k .reads;
-            headers-are = k .headers-are;
-            records-are = k .records-are;
-            first-is = k .first-is;
-            fit = sym fit;
-            short = omega (arith, n-is, short);
-            room = omega (arith, n-is, room);
-          }
-
-          pub appended : (exit : Bytes) → exit ≡ placed 0 (grownFile (readDay (take size B)) number header stretch sealed) B → record { number = 0; size = n; output = exit } ≡ called
-          appended exit e =
-              let is : exit ≡ placed 0 (writeDay after) B = e ∙ ap (λ (o : Option Day). placed 0 (grownFile o number header stretch sealed) B) (k .reads) in
-              let past : 0 + length (writeDay after) ≡ length (writeDay after) = omega arith in
-              (λ i. record { number = 0; size = n-is i; output = (is ∙ ap (λ (m : ℕ). writeDay after ++ drop m B) past) i })
-              ∙ by-tests-three (sym fit) file-short (le-ltb (length B) (length (writeDay after)) (omega (arith, n-is, room)))
+        pub appended : (exit : Bytes) → exit ≡ placed 0 (grownFile (readDay (take size B)) number header stretch sealed) B → record { number = 0; size = n; output = exit } ≡ answered
+        appended exit e =
+            let is : exit ≡ placed 0 (writeDay after) B = e ∙ ap (λ (o : Option Day). placed 0 (grownFile o number header stretch sealed) B) (k .reads) in
+            let past : 0 + length (writeDay after) ≡ length (writeDay after) = omega arith in
+            (λ i. record { number = 0; size = n-is i; output = (is ∙ ap (λ (m : ℕ). writeDay after ++ drop m B) past) i })
+            ∙ by-tests-three (sym fit) file-short (le-ltb (length B) (length (writeDay after)) (omega (arith, n-is, room)))

@@ -1,15 +1,15 @@
 -- Clearing by the steps that it takes: what stands in the buffer after each, and that it is the cleared file in the end.
 use mathlib.Core.Bool.{Bool}
-use mathlib.Core.List.{List, [], _∷_, _++_, append-assoc, append-nil, map}
+use mathlib.Core.List.{List, [], _++_, append-assoc, append-nil, map}
 use mathlib.Core.Path.{_≡_, refl, ap, sym, subst, _∙_}
 use Prim.Native.Nat.{ℕ, _+_, _-_, _*_, _≤_, _<_}
 use native.Mathlib.Nat.{zero-add}
 use native.Mathlib.Omega.{arith}
-use lib.ListN.{length, getD, take, drop, replicate, length-append, length-drop, take-append-drop}
+use lib.ListN.{length, getD, take, drop, replicate, length-append, take-append-drop}
 use lib.Seq.{length-take-le, take-all, take-at, drop-at, drop-drop}
-use Rattle.paper.specs.Strings.{Bytes, Below, if_then_else_, digits}
+use Rattle.paper.specs.Strings.{Bytes, if_then_else_, digits}
 use Rattle.paper.specs.Document01.{writeStrings}
-use Rattle.paper.specs.DayFile.{Record, Day, writeRecords, writeHeaders, firstPlace, placesFrom, writePlaces, writeIndex, writeDay, readDay}
+use Rattle.paper.specs.DayFile.{Record, Day, writeRecords, writeHeaders, firstPlace, placesFrom, writePlaces, writeIndex, writeDay}
 use Rattle.paper.specs.DayEdits.{pickFrom, countBelow, keeps, named, mended, packed, cleared}
 use Rattle.laws.proofs.BitStrings.{length-digits}
 use Rattle.laws.proofs.Digits.{below-take}

@@ -2,12 +2,11 @@
 use mathlib.Core.Bool.{Bool, true, false, _&&_, _||_, not}
 use mathlib.Core.List.{List, [], _∷_, _++_, append-assoc, append-nil, map}
 use mathlib.Core.Path.{_≡_, refl, ap, ap₂, sym, _∙_}
-use Prim.Native.Nat.{ℕ, zero, suc, _+_, _-_, _*_, _≤_, _<_}
-use native.Mathlib.Nat.{zero-add}
+use Prim.Native.Nat.{ℕ, zero, suc, _+_, _-_, _≤_, _<_}
 use native.Mathlib.Omega.{arith}
 use lib.Dec.{eqb}
 use lib.ListN.{length, getD, take, drop, length-append, take-append-drop}
-use lib.Seq.{length-take-le, take-suc, take-all, take-at, take-append-seam, drop-at, drop-cons, drop-drop}
+use lib.Seq.{length-take-le, take-suc, take-at, take-append-seam, drop-at, drop-cons, drop-drop}
 use Rattle.paper.specs.Strings.{Bytes, if_then_else_, digits}
 use Rattle.paper.specs.Document01.{writeStrings}
 use Rattle.paper.specs.DayFile.{Record, writeRecord, writeRecords, value, recordFits}

@@ -1,19 +1,15 @@
 -- A buffer that is written anew from its front, while from a place on it is as it was.
-use mathlib.Core.Bool.{Bool, true, false}
-use mathlib.Core.List.{List, [], _∷_, _++_, append-nil}
+use mathlib.Core.List.{_++_}
 use mathlib.Core.Path.{_≡_, refl, ap, sym, subst, _∙_}
-use Prim.Native.Nat.{ℕ, _+_, _-_, _≤_, _<_}
-use native.Mathlib.Numerals.{add-one}
+use Prim.Native.Nat.{ℕ, _+_, _-_, _≤_}
 use native.Mathlib.Omega.{arith}
-use lib.ListN.{length, getD, take, drop, length-append, length-drop}
+use lib.ListN.{length, getD, take, drop, length-append}
 use lib.Seq.{length-take-le, take-at, take-take, take-add, drop-at, drop-drop, getD-drop}
-use Rattle.paper.specs.Strings.{Bytes, if_then_else_}
+use Rattle.paper.specs.Strings.{Bytes}
 use Rattle.paper.specs.DayFile.{value}
 use Rattle.laws.specs.Placing.{placed}
-use Rattle.laws.proofs.Placed.{placed-then}
-use Rattle.day.specs.declared.Entry.{Entry}
 use Rattle.day.specs.Walks.{entryAt}
-use Rattle.day_place.proofs.Moved.{placed-none, placed-long, placed-past}
+use Rattle.day_place.proofs.Moved.{placed-long, placed-past}
 use Rattle.day_clear.specs.Kept.{Packed}
 
 -- ---- One part more

@@ -8,7 +8,7 @@ use Rattle.paper.specs.DayFile.{writePlaces}
 use Rattle.paper.specs.DayEdits.{countBelow, keeps}
 use Rattle.laws.specs.Placing.{placed}
 use Rattle.day_place.specs.Walked.{placesOf}
-use Rattle.day_clear.specs.Bits.{bitsBelow, Tallied}
+use Rattle.day_clear.specs.Bits.{bitsBelow}
 use Rattle.day_clear.specs.Kept.{MarksOf, headEnd, headsKept, recordsKept, Packed}
 use Rattle.day_clear.specs.Cleared.{Clearable}
 

@@ -1,14 +1,13 @@
 -- `day_append::append` meets its contract: each return is one case of the definition.
 use mathlib.Core.Bool.{true}
 use mathlib.Core.Path.{_≡_, sym, _∙_}
-use Prim.Native.Nat.{ℕ}
 use native.Mathlib.Omega.{arith}
 use lib.ListN.{take}
 use lib.Seq.{length-take-le}
-use Rattle.paper.specs.Strings.{Bytes, Below}
 use Rattle.paper.specs.DayEdits.{appendFits}
 use Rattle.laws.proofs.Digits.{below-of}
-use Rattle.day_place.proofs.Held.{Counted, counted}
+use Rattle.day_place.proofs.Held.{counted}
+use Rattle.day_append.proofs.Lent.{Asked}
 use Rattle.day_append.proofs.Settles.{past-buffer, unread, size-short, unfit, too-long, no-room, ready, appended}
 use borrow.Author.Needs.{needs}
 use Rattle.day_append.proofs.append.Statement.{statement}
@@ -25,23 +24,24 @@ module _ (c : tie.After-known-told) where
   abbrev inside : tie.Else1
   inside = checked-file .before .before
 
-  abbrev B : Bytes
-  B = start inside .args .buffer .now
-
-  low : Below 256 B
-  low = below-of 256 B (λ i p. omega (arith, inside .before .before .before .slice-known .given i))
-
-  abbrev headers : ℕ
-  headers = c .before .headers .given .0 .0
-
-  abbrev records : ℕ
-  records = c .before .headers .given .0 .1 .0
-
-  abbrev first : ℕ
-  first = c .before .headers .given .0 .1 .1 .0
-
-  found : Counted (take (start inside .args .size) B) headers records first
-  found = counted (take (start inside .args .size) B) headers records first (sym (c .before .headers .given .1) ∙ checked-file .check .ensures)
+  abbrev asked : Asked
+  asked =
+      let a = start inside .args in
+      let given = c .before .headers .given in
+      record {
+        buffer = a .buffer .now;
+        low = below-of 256 (a .buffer .now) (λ i p. omega (arith, inside .before .before .before .slice-known .given i));
+        size = a .size;
+        inside = inside .if1 .left;
+        number = a .number;
+        header = a .header .now;
+        stretch = a .stretch;
+        sealed = a .sealed .now;
+        headers = given .0 .0;
+        records = given .0 .1 .0;
+        first = given .0 .1 .1 .0;
+        counted = counted (take (a .size) (a .buffer .now)) (given .0 .0) (given .0 .1 .0) (given .0 .1 .1 .0) (sym (given .1) ∙ checked-file .check .ensures);
+      }
 
 returns : tie.Need-returns
 returns c =
@@ -73,10 +73,16 @@ returns-2 c =
     let a = start e .args in
     unread (a .buffer .now) (a .size) (a .number) (a .header .now) (a .stretch) (a .sealed .now) (e .if1 .left) (rw (c .enum-told .given .1) at (h .check .ensures))
 
--- and the append is within the layout
-abbrev fit : (g : tie.After-grown-size)
-    → true ≡ appendFits (start (inside (g .before .before .before)) .args .number) (start (inside (g .before .before .before)) .args .header .now) (start (inside (g .before .before .before)) .args .stretch) (headers (g .before .before .before))
-fit g = sym (g .before .if2 .taken) ∙ g .before .before .fits2 .ensures
+-- the append is within the layout
+module _ (g : tie.After-grown-size) where
+  abbrev told : tie.After-known-told
+  told = g .before .before .before
+
+  abbrev q : Asked
+  q = asked told
+
+  fit : true ≡ appendFits (q .number) (q .header) (q .stretch) (q .headers)
+  fit = sym (g .before .if2 .taken) ∙ g .before .before .fits2 .ensures
 
 fits-requires : tie.Need-fits-requires
 fits-requires c κs = search needs
@@ -84,8 +90,7 @@ fits-requires c κs = search needs
 grown-size-requires : tie.Need-grown-size-requires
 grown-size-requires c κs =
     let t = c .before .before in
-    let a = start (inside t) .args in
-    size-short (B t) (a .size) (a .number) (a .header .now) (a .stretch) (a .sealed .now) (low t) (inside t .if1 .left) (headers t) (records t) (first t) (found t)
+    size-short (asked t)
 
 same-length-2 : tie.Need-same-length-2
 same-length-2 c = search needs
@@ -93,9 +98,8 @@ same-length-2 c = search needs
 returns-3 : tie.Need-returns-3
 returns-3 c =
     let g = c .before in
-    let t = g .before .before .before in
-    let a = start (inside t) .args in
-    too-long (B t) (a .size) (a .number) (a .header .now) (a .stretch) (a .sealed .now) (low t) (inside t .if1 .left) (headers t) (records t) (first t) (found t) (fit g) (g .grown-size .result) (g .grown-size .ensures) (c .if3 .taken)
+    let t = told g in
+    too-long (asked t) (fit g) (g .grown-size .result) (g .grown-size .ensures) (c .if3 .taken)
 
 same-length-3 : tie.Need-same-length-3
 same-length-3 c = search needs
@@ -104,18 +108,16 @@ returns-4 : tie.Need-returns-4
 returns-4 c =
     let e = c .before in
     let g = e .before in
-    let t = g .before .before .before in
-    let a = start (inside t) .args in
-    no-room (B t) (a .size) (a .number) (a .header .now) (a .stretch) (a .sealed .now) (low t) (inside t .if1 .left) (headers t) (records t) (first t) (found t) (fit g) (g .grown-size .result) (g .grown-size .ensures) (e .if3 .left) (c .if4 .taken)
+    let t = told g in
+    no-room (asked t) (fit g) (g .grown-size .result) (g .grown-size .ensures) (e .if3 .left) (c .if4 .taken)
 
 put-grown-requires : tie.Need-put-grown-requires
 put-grown-requires c κs =
     let r = c .before in
     let e = r .before in
     let g = e .before in
-    let t = g .before .before .before in
-    let a = start (inside t) .args in
-    ready (B t) (a .size) (a .number) (a .header .now) (a .stretch) (a .sealed .now) (low t) (inside t .if1 .left) (headers t) (records t) (first t) (found t) (fit g) (g .grown-size .result) (g .grown-size .ensures) (e .if3 .left) (r .if4 .left)
+    let t = told g in
+    ready (asked t) (fit g) (g .grown-size .result) (g .grown-size .ensures) (e .if3 .left) (r .if4 .left)
 
 same-length-4 : tie.Need-same-length-4
 same-length-4 c = search needs
@@ -126,9 +128,8 @@ returns-5 c =
     let r = p .before .before in
     let e = r .before in
     let g = e .before in
-    let t = g .before .before .before in
-    let a = start (inside t) .args in
-    appended (B t) (a .size) (a .number) (a .header .now) (a .stretch) (a .sealed .now) (low t) (inside t .if1 .left) (headers t) (records t) (first t) (found t) (fit g) (g .grown-size .result) (g .grown-size .ensures) (e .if3 .left) (r .if4 .left) (p .put-grown .last .0) (p .put-grown .ensures)
+    let t = told g in
+    appended (asked t) (fit g) (g .grown-size .result) (g .grown-size .ensures) (e .if3 .left) (r .if4 .left) (p .put-grown .last .0) (p .put-grown .ensures)
 
 same-length-5 : tie.Need-same-length-5
 same-length-5 c = search needs
@@ -136,8 +137,7 @@ same-length-5 c = search needs
 returns-6 : tie.Need-returns-6
 returns-6 c =
     let t = c .before .before in
-    let a = start (inside t) .args in
-    unfit (B t) (a .size) (a .number) (a .header .now) (a .stretch) (a .sealed .now) (low t) (inside t .if1 .left) (headers t) (records t) (first t) (found t) (sym (c .if2 .left) ∙ c .before .fits2 .ensures)
+    unfit (asked t) (sym (c .if2 .left) ∙ c .before .fits2 .ensures)
 
 pub append-spec : {M : Type 1} → statement M
 append-spec =

@@ -1,5 +1,4 @@
 -- `day_append::cap` meets its contract.
-use native.Mathlib.Omega.{arith}
 use Rattle.day_append.proofs.Settles.{capped-over, capped-under}
 use Rattle.day_append.proofs.cap.Statement.{statement}
 use Rattle.day_append.proofs.cap.Tie as tie

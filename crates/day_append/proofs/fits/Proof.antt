@@ -1,6 +1,4 @@
 -- `day_append::fits` meets its contract: each return is one case of the definition.
-use mathlib.Core.Path.{_≡_, sym, _∙_}
-use native.Mathlib.Omega.{arith}
 use Rattle.day_append.proofs.Settles.{unfit-stretch, fit-there, unfit-number, unfit-header, fit-next}
 use borrow.Author.Needs.{needs}
 use Rattle.day_append.proofs.fits.Statement.{statement}

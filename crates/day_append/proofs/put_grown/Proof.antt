@@ -1,12 +1,10 @@
 -- `day_append::put_grown` meets its contract: the header that is there, or the one that is brought.
-use mathlib.Core.List.{[], _∷_}
 use mathlib.Core.Option.{Option}
 use mathlib.Core.Path.{_≡_, ap, sym, _∙_}
-use Prim.Native.Nat.{ℕ, _+_, _-_, _*_, _≤_}
+use Prim.Native.Nat.{ℕ, _+_, _*_, _≤_}
 use native.Mathlib.Omega.{arith}
-use lib.ListN.{length, take, drop}
-use Rattle.paper.specs.Strings.{Bytes, Below}
-use Rattle.paper.specs.Document01.{writeStrings}
+use lib.ListN.{length, take}
+use Rattle.paper.specs.Strings.{Bytes}
 use Rattle.paper.specs.DayFile.{Day, writeRecords, writeHeaders, writeDay, readDay}
 use Rattle.paper.specs.DayEdits.{grown}
 use Rattle.laws.proofs.Digits.{below-of}
@@ -14,6 +12,7 @@ use Rattle.laws.proofs.DayWritten.{headers-few, first-place}
 use Rattle.laws.proofs.DayGrown.{fits-names}
 use Rattle.laws.specs.Placing.{placed}
 use Rattle.day_append.specs.Appended.{grownFile}
+use Rattle.day_append.proofs.Lent.{Lent, lastOf, Brought}
 use Rattle.day_append.proofs.Growing.{heads-long, size-is, next-long, there-rows, there-short, there-room, there-closes, next-rows, next-short, next-room, next-closes}
 use borrow.Author.Needs.{needs}
 use Rattle.day_append.proofs.put_grown.Statement.{statement}
@@ -27,20 +26,8 @@ module _ (c : tie.After-shared-slice-known2) where
   abbrev B : Bytes
   B = start .args .out .now
 
-  low : Below 256 B
-  low = below-of 256 B (λ i p. omega (arith, c .before .before .slice-known .given i))
-
   abbrev size : ℕ
   size = start .args .size
-
-  abbrev headers : ℕ
-  headers = start .args .headers
-
-  abbrev records : ℕ
-  records = start .args .records
-
-  abbrev first : ℕ
-  first = start .args .first
 
   abbrev number : ℕ
   number = start .args .number
@@ -54,18 +41,29 @@ module _ (c : tie.After-shared-slice-known2) where
   abbrev sealed : Bytes
   sealed = start .args .sealed .now
 
-  -- where the records end
-  abbrev last : ℕ
-  last = size - 4 - 4 * records
+  abbrev l : Lent
+  l = record {
+    buffer = B;
+    low = below-of 256 B (λ i p. omega (arith, c .before .before .slice-known .given i));
+    size = size;
+    headers = start .args .headers;
+    records = start .args .records;
+    first = start .args .first;
+    number = number;
+    header = header;
+    stretch = stretch;
+    sealed = sealed;
+    ready = start .pre;
+  }
 
-  heads : length (writeHeaders (start .pre .day .headers)) + 4 ≡ first
-  heads = heads-long B low size headers records first number header stretch sealed (start .pre)
+  heads : length (writeHeaders (start .pre .day .headers)) + 4 ≡ start .args .first
+  heads = heads-long l
 
-  whole : size ≡ first + length (writeRecords (start .pre .day .records)) + (4 + 4 * records)
-  whole = size-is B low size headers records first number header stretch sealed (start .pre)
+  whole : size ≡ start .args .first + length (writeRecords (start .pre .day .records)) + (4 + 4 * start .args .records)
+  whole = size-is l
 
   small : stretch ≤ 64
-  small = fits-names number header stretch headers (start .pre .fit) .1
+  small = fits-names number header stretch (start .args .headers) (start .pre .fit) .1
 
   -- the file that the contract names
   file : writeDay (grown number header stretch sealed (start .pre .day)) ≡ grownFile (readDay (take size B)) number header stretch sealed
@@ -73,16 +71,17 @@ module _ (c : tie.After-shared-slice-known2) where
 
 -- a new header is brought
 module _ (c : tie.Else1) where
+  abbrev lent : tie.After-shared-slice-known2
+  lent = c .before
+
+  abbrev a : Lent
+  a = l lent
+
   abbrev more : ℕ
-  more = 2 + length (header (c .before))
+  more = 2 + length (a .header)
 
-  long : length (writeDay (grown (number (c .before)) (header (c .before)) (stretch (c .before)) (sealed (c .before)) (start (c .before) .pre .day)))
-      ≡ first (c .before) + more + length (writeRecords (start (c .before) .pre .day .records)) + 11 + length (sealed (c .before)) + 4 + 4 * records (c .before)
-  long =
-      next-long (B (c .before)) (low (c .before)) (size (c .before)) (headers (c .before)) (records (c .before)) (first (c .before)) (number (c .before)) (header (c .before)) (stretch (c .before)) (sealed (c .before)) (start (c .before) .pre) (c .if1 .left)
-
-  room : last (c .before) + more + 11 + length (sealed (c .before)) + 4 + 4 * records (c .before) ≤ length (B (c .before))
-  room = omega (arith, long, start (c .before) .pre .room, whole (c .before))
+  room : lastOf a + more + 11 + length (a .sealed) + 4 + 4 * a .records ≤ length (a .buffer)
+  room = omega (arith, next-long a (c .if1 .left), start lent .pre .room, whole lent)
 
 sub-end : tie.Need-sub-end
 sub-end c = omega (arith, heads c)
@@ -100,10 +99,10 @@ put-last-requires : tie.Need-put-last-requires
 put-last-requires c κs =
     let t = c .before in
     let k = t .before in (
-      there-rows (B k) (low k) (size k) (headers k) (records k) (first k) (number k) (header k) (stretch k) (sealed k) (start k .pre) (t .if1 .taken),
+      there-rows (l k) (t .if1 .taken),
       omega (arith, heads k),
-      there-short (B k) (low k) (size k) (headers k) (records k) (first k) (number k) (header k) (stretch k) (sealed k) (start k .pre) (t .if1 .taken),
-      there-room (B k) (low k) (size k) (headers k) (records k) (first k) (number k) (header k) (stretch k) (sealed k) (start k .pre) (t .if1 .taken),
+      there-short (l k) (t .if1 .taken),
+      there-room (l k) (t .if1 .taken),
       small k,
     )
 
@@ -115,68 +114,70 @@ returns c =
     let p = c .before .before in
     let t = p .before .before in
     let k = t .before in
-    there-closes (B k) (low k) (size k) (headers k) (records k) (first k) (number k) (header k) (stretch k) (sealed k) (start k .pre) (t .if1 .taken) (p .put-last .last .0) (p .put-last .ensures)
+    there-closes (l k) (t .if1 .taken) (p .put-last .last .0) (p .put-last .ensures)
     ∙ ap (λ (w : Bytes). placed 0 w (B k)) (file k)
 
 -- the three steps of it
+abbrev moved-from : tie.After-move-right → tie.Else1
+moved-from c = c .before .before
+
+abbrev headed-from : tie.After-put → tie.After-move-right
+headed-from c = c .before .before .before .before
+
 module _ (c : tie.After-put-four) where
   abbrev header-put : tie.After-put
   header-put = c .before .before .before .before
 
   abbrev move-made : tie.After-move-right
-  move-made = header-put .before .before .before .before
+  move-made = headed-from header-put
 
   abbrev brought : tie.Else1
-  brought = move-made .before .before
+  brought = moved-from move-made
 
-  abbrev moved : Bytes
-  moved = move-made .move-right .last .0
-
-  abbrev headed : Bytes
-  headed = header-put .put .last .0
-
-  moved-is : moved
-      ≡ placed (first (brought .before) - 4 + more brought) (take (last (brought .before) - (first (brought .before) - 4)) (drop (first (brought .before) - 4) (B (brought .before)))) (B (brought .before))
-  moved-is = move-made .move-right .ensures
-
-  headed-is : headed ≡ placed (first (brought .before) - 4) (writeStrings (header (brought .before) ∷ [])) moved
-  headed-is = header-put .put .ensures .1
-
-  kept : length (c .put-four .last .0) ≡ length (B (brought .before))
-  kept = c .put-four .kept .0 ∙ header-put .put .kept .0 ∙ move-made .move-right .kept .0
+  abbrev put : Brought (a brought)
+  put = record {
+    moved = move-made .move-right .last .0;
+    moved-is = move-made .move-right .ensures;
+    headed = header-put .put .last .0;
+    headed-is = header-put .put .ensures .1;
+    out = c .put-four .last .0;
+    out-is = c .put-four .ensures;
+    kept = c .put-four .kept .0 ∙ header-put .put .kept .0 ∙ move-made .move-right .kept .0;
+  }
 
 add-more : tie.Need-add-more
 add-more c = search needs
 
 add-move-right : tie.Need-add-move-right
-add-move-right c = let e = c .before in omega (arith, room e, heads (e .before), whole (e .before))
+add-move-right c = let e = c .before in omega (arith, room e, heads (lent e), whole (lent e))
 
 sub-move-right : tie.Need-sub-move-right
 sub-move-right c = let k = c .before .before in omega (arith, heads k, whole k)
 
 move-right-requires : tie.Need-move-right-requires
-move-right-requires c κs = let e = c .before in (omega arith, omega (arith, room e, heads (e .before), whole (e .before)))
+move-right-requires c κs = let e = c .before in (omega arith, omega (arith, room e, heads (lent e), whole (lent e)))
 
 put-requires : tie.Need-put-requires
 put-requires c κs =
     let m = c .before .before .before in
-    let e = m .before .before in
-    omega (arith, room e, heads (e .before), whole (e .before), m .move-right .kept .0)
+    let e = moved-from m in
+    omega (arith, room e, heads (lent e), whole (lent e), m .move-right .kept .0)
 
 add-put-four : tie.Need-add-put-four
 add-put-four c =
-    let e = c .before .before .before .before .before .before .before .before .before in
-    omega (arith, room e, start (e .before) .pre .headers-are, headers-few (start (e .before) .pre .day .headers), first-place (start (e .before) .pre .day .headers), start (e .before) .pre .first-is, whole (e .before))
+    let e = moved-from (headed-from (c .before .before .before)) in
+    let p = start (lent e) .pre in
+    omega (arith, room e, p .headers-are, headers-few (p .day .headers), first-place (p .day .headers), p .first-is, whole (lent e))
 
 put-four-requires : tie.Need-put-four-requires
 put-four-requires c κs =
     let h = c .before .before .before in
-    let m = h .before .before .before .before in
-    let e = m .before .before in
-    omega (arith, room e, heads (e .before), whole (e .before), m .move-right .kept .0, h .put .kept .0)
+    let m = headed-from h in
+    let e = moved-from m in
+    omega (arith, room e, heads (lent e), whole (lent e), m .move-right .kept .0, h .put .kept .0)
 
 add-put-last : tie.Need-add-put-last
-add-put-last c = let b = brought (c .before .before .before) in omega (arith, room b, whole (b .before))
+add-put-last c = let b = brought (c .before .before .before) in omega (arith, room b, whole (lent b))
 
 add-put-last-2 : tie.Need-add-put-last-2
 add-put-last-2 c = search needs
@@ -185,11 +186,11 @@ put-last-requires-2 : tie.Need-put-last-requires-2
 put-last-requires-2 c κs =
     let n = c .before .before .before in
     let b = brought n in
-    let k = b .before in (
-      next-rows (B k) (low k) (size k) (headers k) (records k) (first k) (number k) (header k) (stretch k) (sealed k) (start k .pre) (b .if1 .left) (moved n) (headed n) (n .put-four .last .0) (moved-is n) (headed-is n) (n .put-four .ensures) (kept n),
+    let k = lent b in (
+      next-rows (l k) (b .if1 .left) (put n),
       omega (arith, heads k),
-      next-short (B k) (low k) (size k) (headers k) (records k) (first k) (number k) (header k) (stretch k) (sealed k) (start k .pre) (b .if1 .left) (moved n) (headed n) (n .put-four .last .0) (moved-is n) (headed-is n) (n .put-four .ensures) (kept n),
-      next-room (B k) (low k) (size k) (headers k) (records k) (first k) (number k) (header k) (stretch k) (sealed k) (start k .pre) (b .if1 .left) (moved n) (headed n) (n .put-four .last .0) (moved-is n) (headed-is n) (n .put-four .ensures) (kept n),
+      next-short (l k) (b .if1 .left) (put n),
+      next-room (l k) (b .if1 .left) (put n),
       small k,
     )
 
@@ -201,8 +202,8 @@ returns-2 c =
     let p = c .before .before in
     let n = p .before .before .before .before in
     let b = brought n in
-    let k = b .before in
-    next-closes (B k) (low k) (size k) (headers k) (records k) (first k) (number k) (header k) (stretch k) (sealed k) (start k .pre) (b .if1 .left) (moved n) (headed n) (n .put-four .last .0) (moved-is n) (headed-is n) (n .put-four .ensures) (kept n) (p .put-last2 .last .0) (p .put-last2 .ensures)
+    let k = lent b in
+    next-closes (l k) (b .if1 .left) (put n) (p .put-last2 .last .0) (p .put-last2 .ensures)
     ∙ ap (λ (w : Bytes). placed 0 w (B k)) (file k)
 
 pub put-grown-spec : {M : Type 1} → statement M

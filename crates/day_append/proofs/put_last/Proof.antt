@@ -14,7 +14,6 @@ use Rattle.laws.proofs.Placed.{placed-then}
 use Rattle.day_place.specs.Walked.{endOf, placesOf}
 use Rattle.day_place.proofs.Walk.{places-count}
 use Rattle.day_write.specs.Written.{recordWith}
-use Rattle.day_append.specs.Appended.{lastWritten}
 use Rattle.day_append.proofs.Growing.{rows-end}
 use Rattle.day_append.proofs.Settles.{front-put}
 use borrow.Author.Needs.{needs}

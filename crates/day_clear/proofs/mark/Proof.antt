@@ -1,7 +1,6 @@
 -- `day_clear::mark` meets its contract.
 use mathlib.Core.Bool.{Bool}
-use mathlib.Core.List.{List}
-use mathlib.Core.Path.{_≡_, ap, sym, _∙_}
+use mathlib.Core.Path.{ap, sym, _∙_}
 use Prim.Native.Nat.{ℕ, _/_}
 use lib.Bits.{bitOr}
 use lib.ListN.{getD, set}

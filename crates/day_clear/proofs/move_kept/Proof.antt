@@ -1,7 +1,5 @@
 -- `day_clear::move_kept` meets its contract.
-use mathlib.Core.List.{[]}
 use mathlib.Core.Path.{_≡_, ap, sym, _∙_}
-use Prim.Native.Nat.{_+_}
 use native.Mathlib.Omega.{arith}
 use lib.ListN.{length, take, drop, length-drop}
 use lib.Seq.{length-take-le}

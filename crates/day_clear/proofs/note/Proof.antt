@@ -2,7 +2,6 @@
 use mathlib.Core.Bool.{Bool}
 use mathlib.Core.Path.{ap, sym}
 use Prim.Native.Nat.{_/_, _%_}
-use lib.Dec.{eqb}
 use lib.ListN.{set}
 use borrow.Author.Needs.{needs}
 use borrow.Author.Tests.{eq-eqb, ne-eqb}

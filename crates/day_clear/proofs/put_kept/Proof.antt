@@ -5,7 +5,7 @@ use mathlib.Core.Path.{_≡_, ap, sym, _∙_}
 use Prim.Native.Nat.{_+_, _-_}
 use native.Mathlib.Omega.{arith}
 use lib.ListN.{length, take, drop}
-use Rattle.paper.specs.Strings.{Bytes, if_then_else_, digits}
+use Rattle.paper.specs.Strings.{Bytes, digits}
 use Rattle.laws.specs.Placing.{placed}
 use Rattle.day_place.proofs.Moved.{placed-none}
 use Rattle.day_clear.specs.Bits.{bitsBelow}

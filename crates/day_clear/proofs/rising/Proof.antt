@@ -1,5 +1,5 @@
 -- `day_clear::rising` meets its contract. The invariant: the whole list rises where what is left of it rises from the least that may come.
-use mathlib.Core.Path.{_≡_, refl, ap, sym, _∙_}
+use mathlib.Core.Path.{_≡_, refl, sym, _∙_}
 use Prim.Native.Nat.{_-_, _≤_}
 use native.Mathlib.Omega.{arith}
 use borrow.Author.Needs.{needs}

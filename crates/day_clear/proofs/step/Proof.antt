@@ -1,6 +1,6 @@
 -- `day_clear::step` meets its contract.
 use mathlib.Core.Bool.{Bool}
-use mathlib.Core.Path.{_≡_, ap, sym}
+use mathlib.Core.Path.{ap, sym}
 use Prim.Native.Nat.{_+_}
 use Rattle.paper.specs.Strings.{if_then_else_}
 use borrow.Author.Needs.{needs}
