@@ -1,10 +1,10 @@
 -- CLEARING. Kept records keep their order, their stretch and their sealed bytes, and name the same header's bytes as before. The day after
 -- clearing is within the layout, its file is not longer, and clearing it again with an empty list leaves it as it is.
 use mathlib.Core.Bool.{Bool, true, false, _&&_, _||_}
-use mathlib.Core.List.{List, [], _∷_, _++_, map}
-use mathlib.Core.Option.{Option, none, some}
-use mathlib.Core.Path.{_≡_, refl, ap, ap₂, sym, subst, _∙_}
-use Prim.Native.Nat.{ℕ, zero, suc, _+_, _*_, _≤_, _<_}
+use mathlib.Core.List.{List, [], _∷_, map}
+use mathlib.Core.Option.{none, some}
+use mathlib.Core.Path.{_≡_, refl, ap, sym, subst, _∙_}
+use Prim.Native.Nat.{ℕ, zero, suc, _+_, _≤_, _<_}
 use native.Mathlib.Nat.{zero-add}
 use native.Mathlib.Omega.{arith}
 use borrow.Author.Tests.{eqb-true, eq-eqb, le-leb, lt-ltb}
@@ -12,7 +12,7 @@ use lib.Dec.{eqb, leb, ltb}
 use lib.ListN.{length, getD, getElem?}
 use Rattle.paper.specs.Strings.{Bytes}
 use Rattle.paper.specs.Document01.{writeStrings}
-use Rattle.paper.specs.DayFile.{Record, Day, writeRecords, writeDay, headerFits, recordFits, headerOf}
+use Rattle.paper.specs.DayFile.{Record, Day, writeRecords, writeDay, recordFits, headerOf}
 use Rattle.paper.specs.DayEdits.{pickFrom, countBelow, has, keeps, named, mended, packed, cleared}
 use Rattle.laws.proofs.DayWritten.{HeadersFit, RecordsFit, Layout, strings-long, records-long, first-place, day-long}
 use Rattle.laws.proofs.DayReading.{record-fits}

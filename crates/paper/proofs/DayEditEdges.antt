@@ -2,8 +2,8 @@
 use mathlib.Core.Bool.{true, false}
 use mathlib.Core.List.{[], _∷_, _++_}
 use mathlib.Core.Option.{some}
-use mathlib.Core.Path.{_≡_, refl, ap, _∙_}
-use Rattle.paper.specs.Strings.{Bytes, digits}
+use mathlib.Core.Path.{_≡_, refl, ap}
+use Rattle.paper.specs.Strings.{digits}
 use Rattle.paper.specs.Document01.{reading, readStrings, readHeader, writeStrings}
 use Rattle.paper.specs.DayFile.{Day, writeRecord, writeRecords, writeHeaders, firstPlace, placesFrom, writePlaces, writeIndex, writeDay}
 use Rattle.paper.specs.DayEdits.{pickFrom, countBelow, has, named, packed, cleared, risingFrom, clearIn, grown, appendIn}

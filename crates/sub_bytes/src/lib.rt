@@ -1,6 +1,7 @@
 // SubBytes of FIPS 197 on a state of four columns, by a fixed sequence of operations and with no table: no address depends on a byte of the
 // state. The bits of the sixteen bytes are moved to planes, eight words of which word j has bit j of each byte; there the circuit of Boyar
 // and Peralta works on all bytes at once; and the bits are moved back.
+use columns::Columns;
 ghost use mathlib.Core.Path.{_≡_};
 ghost use Prim.Native.Nat.{_<_};
 ghost use Rattle.paper.specs.Fips197.{bit, SubBytes};
@@ -28,7 +29,7 @@ fn exchanged(a: u32, b: u32, n: u32, m: u32) -> Pair
 
 // Four words turned over in each half-byte: bit w of a half-byte of word v and bit v of that half-byte of word w change places. First single
 // bits go over, between words 0 and 1 and between 2 and 3; then pairs of bits, between 0 and 2 and between 1 and 3.
-fn crossed(s: [u32; 4]) -> [u32; 4]
+fn crossed(s: Columns) -> Columns
     ensures { λ r. ⌜ r ≡ crossed s ⌝ }
 {
     let s0 = s[0];
@@ -44,7 +45,7 @@ fn crossed(s: [u32; 4]) -> [u32; 4]
 
 // A state on planes. Word w, turned over, has bit w of every byte in the low half-bytes and bit w + 4 in the high ones; what then stands in
 // the high half-bytes of a plane belongs to no byte.
-fn planes(s: [u32; 4]) -> [u32; 8]
+fn planes(s: Columns) -> [u32; 8]
     ensures { λ r. ⌜ planeBytes r ≡ blockOf s ⌝ }
 {
     let w = crossed(s);
@@ -68,7 +69,7 @@ fn joined(a: u32, b: u32) -> u32
 }
 
 // The columns of a state on planes.
-fn columns(q: [u32; 8]) -> [u32; 4]
+fn columns(q: [u32; 8]) -> Columns
     ensures { λ r. ⌜ blockOf r ≡ planeBytes q ⌝ }
 {
     let w0 = joined(q[0], q[4]);
@@ -79,7 +80,7 @@ fn columns(q: [u32; 8]) -> [u32; 4]
 }
 
 // Each byte of the state by the S-box.
-pub fn sub_bytes(s: [u32; 4]) -> [u32; 4]
+pub fn sub_bytes(s: Columns) -> Columns
     ensures { λ r. ⌜ r ≡ columnsOf (SubBytes (blockOf s)) ⌝ }
 {
     let q = planes(s);

@@ -2,10 +2,9 @@
 use mathlib.Core.Bool.{Bool, true, false}
 use mathlib.Core.List.{List, [], _∷_, map}
 use mathlib.Core.Path.{_≡_}
-use Prim.Native.Nat.{ℕ, zero, suc, _+_, _-_, _*_, _/_, _%_, _≤_}
+use Prim.Native.Nat.{ℕ, zero, suc, _-_, _*_, _/_, _%_, _≤_}
 use lib.Dec.{eqb}
-use lib.ListN.{getD}
-use Rattle.paper.specs.Strings.{Bytes, if_then_else_, join}
+use Rattle.paper.specs.Strings.{if_then_else_}
 use Rattle.paper.specs.Section7.{double, twoTo, _·_}
 use Rattle.paper.specs.Figure6 as figure6
 use Rattle.paper.specs.Figure6.{Row, minus1, row}

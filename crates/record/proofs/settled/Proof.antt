@@ -5,7 +5,6 @@ use Prim.Native.Nat.{ℕ, _<_}
 use borrow.Author.Needs.{needs}
 use borrow.Author.Tests.{lt-ltb, le-ltb, eq-eqb, ne-eqb}
 use lib.Dec.{ltb}
-use Rattle.paper.specs.Strings.{Bytes}
 use Rattle.header.specs.Places.{readAs}
 use Rattle.header.specs.declared.Reading.the-variants.{Bad, Strings}
 use Rattle.paper.specs.Document01.{Read, asStrings, badEntry, reading, longestStretch}

@@ -5,7 +5,7 @@ use Prim.Native.Nat.{ℕ, _-_, _/_, _%_}
 use native.Mathlib.Omega.{arith}
 use borrow.Author.Needs.{needs}
 use lib.ListN.{drop}
-use Rattle.paper.specs.Strings.{Bytes, _⊕_}
+use Rattle.paper.specs.Strings.{Bytes}
 use Rattle.paper.specs.Section7.{zeros, twoTo, _·_, AES}
 use Rattle.paper.specs.Figure6.{k1, k2, masked}
 use Rattle.laws.proofs.BlockFunction.{E-406-1, E-406-2}
