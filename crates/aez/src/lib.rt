@@ -171,7 +171,7 @@ pub extern "C" fn aez_day_list(
 ) -> u32
     ensures { λ r. ⌜ (r ≡ listing (now (file .entry)) (now (places .entry)) .number) × (now (headers .exit) ≡ listing (now (file .entry)) (now (places .entry)) .headers) × (now (records .exit) ≡ listing (now (file .entry)) (now (places .entry)) .records) × (now (places .exit) ≡ listing (now (file .entry)) (now (places .entry)) .places) ⌝ }
 {
-    let listed = day::list(file, places);
+    let listed = day_list::list(file, places);
     *headers = listed.headers as u64;
     *records = listed.records as u64;
     listed.number

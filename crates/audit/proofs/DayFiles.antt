@@ -24,7 +24,7 @@ use Rattle.answer.specs.declared.AnswerAt.{AnswerAt}
 use Rattle.record.specs.declared.Refusal.{Refusal}
 use Rattle.record.specs.Settled.{settledSealing}
 use Rattle.record.proofs.Settles.{Fits, sealing-fits, sealing-refused}
-use Rattle.day_write.specs.Written.{settledFor}
+use Rattle.day_write.specs.Settled.{settledFor}
 use Rattle.day_write.proofs.Writes.{Accepted, accepted, write-refused}
 use Rattle.day_write.proofs.write.Reads as write-reads
 use Rattle.day_open.proofs.«open».Reads as open-reads

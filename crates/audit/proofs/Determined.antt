@@ -2,9 +2,12 @@
 -- equal, and so are any two contents of the lent buffer at exit. `Learnt` is a function's contract as its callers have it: the checker
 -- makes it from the `ensures` in the source. In each theorem κs are lifetimes, a the arguments, z and w two results, e and f the
 -- parameters at two exits.
-use mathlib.Core.List.{List}
-use mathlib.Core.Path.{_≡_, ap, sym, _∙_}
+use mathlib.Core.List.{List, []}
+use mathlib.Core.Option.{Option, none, some}
+use mathlib.Core.Path.{_≡_, refl, ap, sym, _∙_}
 use Prim.Native.Nat.{ℕ}
+use native.Mathlib.Omega.{arith}
+use lib.ListN.{length, drop, length-drop}
 use denote.Ref.{now, ptr}
 use Rattle.paper.specs.Strings.{Bytes}
 use Rattle.paper.specs.Section7.{_·_}
@@ -13,9 +16,14 @@ use Rattle.paper.specs.Document01.{Outcome, OutcomeAt}
 use Rattle.answer.specs.Outcomes.{outcome, outcomeAt}
 use Rattle.answer.specs.declared.Answer.{Answer}
 use Rattle.answer.specs.declared.AnswerAt.{AnswerAt}
-use Rattle.paper.specs.DayFile.{Listing}
-use Rattle.day.specs.declared.Listed.{Listed}
-use Rattle.day.specs.Lists.{listingAs}
+use Rattle.paper.specs.DayFile.{before, readRecords, Listing}
+use Rattle.day_steps.specs.declared.Step.{Step}
+use Rattle.day_steps.specs.declared.Step.the-variants as step
+use Rattle.day_steps.specs.declared.Walk.{Walk}
+use Rattle.day_steps.specs.declared.Walk.the-variants as walk
+use Rattle.day_steps.specs.Walks.{recordOf, RecordStep, HeadersWalk}
+use Rattle.day_list.specs.declared.Listed.{Listed}
+use Rattle.day_list.specs.Lists.{listingAs}
 use Rattle.columns.specs.Columns.{columnsOf}
 use Rattle.tbc.specs.declared.Key.{Key}
 use Rattle.tbc.specs.Meaning.{blocks, Kept}
@@ -73,22 +81,31 @@ use Rattle.cipher.proofs.decrypt.Reads as cipher-decrypt
 use Rattle.record.proofs.seal.Reads as record-seal
 use Rattle.record.proofs.«open».Reads as record-open
 use Rattle.record.proofs.open_part.Reads as record-open-part
-use Rattle.day.proofs.entry_at.Reads as day-entry-at
+use Rattle.day_steps.proofs.entry_at.Reads as day-entry-at
+use Rattle.day_steps.proofs.record_at.Reads as day-record-at
+use Rattle.day_steps.proofs.headers_end.Reads as day-headers-end
 use Rattle.day.proofs.check.Reads as day-check
-use Rattle.day.proofs.entry_of.Reads as day-entry-of
-use Rattle.day.proofs.place_from.Reads as day-place-from
-use Rattle.day.proofs.find_from.Reads as day-find-from
-use Rattle.day.proofs.find.Reads as day-find
-use Rattle.day.proofs.list.Reads as day-list
+use Rattle.day_find.proofs.entry_of.Reads as day-entry-of
+use Rattle.day_find.proofs.place_from.Reads as day-place-from
+use Rattle.day_find.proofs.find_from.Reads as day-find-from
+use Rattle.day_find.proofs.find.Reads as day-find
+use Rattle.day_list.proofs.list.Reads as day-list
 use Rattle.day_marks.proofs.marks.Reads as day-marks-marks
 use Rattle.day_marks.proofs.find.Reads as day-marks-find
 use Rattle.day_open.proofs.«open».Reads as day-open
-use Rattle.day_write.proofs.put_record.Reads as day-put-record
+use Rattle.day_fit.proofs.headers_fit.Reads as day-headers-fit
+use Rattle.day_fit.proofs.records_fit.Reads as day-records-fit
+use Rattle.day_put.proofs.put_headers.Reads as day-put-headers
+use Rattle.day_put.proofs.put_record.Reads as day-put-record
+use Rattle.day_put.proofs.put_records.Reads as day-put-records
+use Rattle.day_put.proofs.put_places.Reads as day-put-places
 use Rattle.day_write.proofs.write.Reads as day-write
 use Rattle.day_place.proofs.move_left.Reads as day-move-left
 use Rattle.day_place.proofs.move_right.Reads as day-move-right
 use Rattle.day_place.proofs.put_index.Reads as day-put-index
+use Rattle.day_grow.proofs.put_grown.Reads as day-put-grown
 use Rattle.day_append.proofs.append.Reads as day-append
+use Rattle.day_pack.proofs.put_cleared.Reads as day-put-cleared
 use Rattle.day_clear.proofs.clear.Reads as day-clear
 use Rattle.aez.proofs.aez_seal.Reads as exported-seal
 use Rattle.aez.proofs.aez_open.Reads as exported-open
@@ -125,6 +142,33 @@ one-listing : (z w : Listed) (X Y : List ℕ) (o : Listing) → listingAs z X �
 one-listing z w X Y o p q =
     let e : listingAs z X ≡ listingAs w Y = one p q in
     (ap (λ (o : Listing). record { number = o .number; headers = o .headers; records = o .records }) e, ap (λ (o : Listing). o .places) e)
+
+-- a step over a record and a walk over headers: what is read of the rest tells the two apart
+no-records : (headers : ℕ) (X : Bytes) → readRecords headers 0 X ≡ some ([], X)
+unfolding readRecords
+no-records headers X = refl
+
+no-two : {A B : Type 0} {x : A} → none ≡ some x → B
+no-two e = absurd (let z : _≡_ {A = ℕ} 0 1 = cc in omega arith)
+
+one-step : (file : Bytes) (headers at : ℕ) (z w : Step) → RecordStep z file headers at → RecordStep w file headers at → z ≡ w
+one-step file headers at step.Bad step.Bad p q = refl
+one-step file headers at step.Bad (step.To e) p q = no-two (sym (p 0) ∙ q .2 0 ∙ ap (before (recordOf file e)) (no-records headers (drop (e .end) file)))
+one-step file headers at (step.To e) step.Bad p q = no-two (sym (q 0) ∙ p .2 0 ∙ ap (before (recordOf file e)) (no-records headers (drop (e .end) file)))
+one-step file headers at (step.To e) (step.To g) p q = ap step.To (one (p .0) (q .0))
+
+abbrev after : Option (List Bytes × Bytes) → Bytes
+after none = []
+after (some (hs, X)) = X
+
+one-walk : (file : Bytes) (n : ℕ) (z w : Walk) → HeadersWalk z file n → HeadersWalk w file n → z ≡ w
+one-walk file n walk.Bad walk.Bad p q = refl
+one-walk file n walk.Bad (walk.To b) p q = no-two (sym p ∙ q .1 .1)
+one-walk file n (walk.To a) walk.Bad p q = no-two (sym q ∙ p .1 .1)
+one-walk file n (walk.To a) (walk.To b) p q =
+    let rest : drop a file ≡ drop b file = ap after (sym (p .1 .1) ∙ q .1 .1) in
+    let same : a ≡ b = omega (arith, p .0, q .0, ap length rest, length-drop a file, length-drop b file) in
+    ap walk.To same
 
 -- a key record by its blocks, of which the others are multiples
 one-key : (z w : Key) (k : figure6.Key) → blocks z ≡ k → Kept z → blocks w ≡ k → Kept w → z ≡ w
@@ -326,10 +370,16 @@ record-open-determined κs a z w e f p q = one-outcome-at z w (now (e .1 .1 .1 .
 pub record-open-part-determined : (κs : _) (a : _) (z w : _) (e f : _) → record-open-part.Learnt κs a z e → record-open-part.Learnt κs a w f → (ptr z ≡ ptr w) × (now z ≡ now w)
 record-open-part-determined κs a z w e f p q = (one (p .0) (q .0), one (p .1) (q .1))
 
--- ---- The day file: `day`, `day_marks`, `day_open`, `day_write`, `day_place`, `day_append`, `day_clear`
+-- ---- The day file: the crates whose names begin with `day`
 
 pub day-entry-at-determined : (κs : _) (a : _) (z w : _) (e f : _) → day-entry-at.Learnt κs a z e → day-entry-at.Learnt κs a w f → z ≡ w
 day-entry-at-determined κs a z w e f p q = one (p .0) (q .0)
+
+pub day-record-at-determined : (κs : _) (a : _) (z w : _) (e f : _) → day-record-at.Learnt κs a z e → day-record-at.Learnt κs a w f → z ≡ w
+day-record-at-determined κs a z w e f p q = one-step _ _ _ z w p q
+
+pub day-headers-end-determined : (κs : _) (a : _) (z w : _) (e f : _) → day-headers-end.Learnt κs a z e → day-headers-end.Learnt κs a w f → z ≡ w
+day-headers-end-determined κs a z w e f p q = one-walk _ _ z w p q
 
 pub day-check-determined : (κs : _) (a : _) (z w : _) (e f : _) → day-check.Learnt κs a z e → day-check.Learnt κs a w f → z ≡ w
 day-check-determined κs a z w e f p q = one p q
@@ -358,11 +408,26 @@ day-marks-find-determined κs a z w e f p q = one (p .0) (q .0)
 pub day-open-determined : (κs : _) (a : _) (z w : _) (e f : _) → day-open.Learnt κs a z e → day-open.Learnt κs a w f → (z ≡ w) × (now (e .1 .1 .1 .0) ≡ now (f .1 .1 .1 .0))
 day-open-determined κs a z w e f p q = one-outcome z w (now (e .1 .1 .1 .0)) (now (f .1 .1 .1 .0)) _ p q
 
+pub day-headers-fit-determined : (κs : _) (a : _) (z w : _) (e f : _) → day-headers-fit.Learnt κs a z e → day-headers-fit.Learnt κs a w f → z ≡ w
+day-headers-fit-determined κs a z w e f p q = one p q
+
+pub day-records-fit-determined : (κs : _) (a : _) (z w : _) (e f : _) → day-records-fit.Learnt κs a z e → day-records-fit.Learnt κs a w f → z ≡ w
+day-records-fit-determined κs a z w e f p q = one p q
+
+pub day-put-headers-determined : (κs : _) (a : _) (z w : _) (e f : _) → day-put-headers.Learnt κs a z e → day-put-headers.Learnt κs a w f → (z ≡ w) × (now (e .1 .1 .0) ≡ now (f .1 .1 .0))
+day-put-headers-determined κs a z w e f p q = (one (p .0) (q .0), one (p .1) (q .1))
+
 pub day-write-determined : (κs : _) (a : _) (z w : _) (e f : _) → day-write.Learnt κs a z e → day-write.Learnt κs a w f → (z ≡ w) × (now (e .1 .1 .1 .1 .1 .1 .0) ≡ now (f .1 .1 .1 .1 .1 .1 .0))
 day-write-determined κs a z w e f p q = one-outcome z w (now (e .1 .1 .1 .1 .1 .1 .0)) (now (f .1 .1 .1 .1 .1 .1 .0)) _ p q
 
 pub day-put-record-determined : (κs : _) (a : _) (z w : _) (e f : _) → day-put-record.Learnt κs a z e → day-put-record.Learnt κs a w f → now (e .0) ≡ now (f .0)
 day-put-record-determined κs a z w e f p q = one p q
+
+pub day-put-records-determined : (κs : _) (a : _) (z w : _) (e f : _) → day-put-records.Learnt κs a z e → day-put-records.Learnt κs a w f → (z ≡ w) × (now (e .1 .1 .1 .1 .1 .0) ≡ now (f .1 .1 .1 .1 .1 .0))
+day-put-records-determined κs a z w e f p q = (one (p .0) (q .0), one (p .1) (q .1))
+
+pub day-put-places-determined : (κs : _) (a : _) (z w : _) (e f : _) → day-put-places.Learnt κs a z e → day-put-places.Learnt κs a w f → now (e .1 .1 .0) ≡ now (f .1 .1 .0)
+day-put-places-determined κs a z w e f p q = one p q
 
 pub day-move-left-determined : (κs : _) (a : _) (z w : _) (e f : _) → day-move-left.Learnt κs a z e → day-move-left.Learnt κs a w f → now (e .0) ≡ now (f .0)
 day-move-left-determined κs a z w e f p q = one p q
@@ -373,8 +438,14 @@ day-move-right-determined κs a z w e f p q = one p q
 pub day-put-index-determined : (κs : _) (a : _) (z w : _) (e f : _) → day-put-index.Learnt κs a z e → day-put-index.Learnt κs a w f → now (e .0) ≡ now (f .0)
 day-put-index-determined κs a z w e f p q = one p q
 
+pub day-put-grown-determined : (κs : _) (a : _) (z w : _) (e f : _) → day-put-grown.Learnt κs a z e → day-put-grown.Learnt κs a w f → now (e .0) ≡ now (f .0)
+day-put-grown-determined κs a z w e f p q = one p q
+
 pub day-append-determined : (κs : _) (a : _) (z w : _) (e f : _) → day-append.Learnt κs a z e → day-append.Learnt κs a w f → (z ≡ w) × (now (e .0) ≡ now (f .0))
 day-append-determined κs a z w e f p q = one-outcome z w (now (e .0)) (now (f .0)) _ p q
+
+pub day-put-cleared-determined : (κs : _) (a : _) (z w : _) (e f : _) → day-put-cleared.Learnt κs a z e → day-put-cleared.Learnt κs a w f → (z ≡ w) × (now (e .0) ≡ now (f .0))
+day-put-cleared-determined κs a z w e f p q = (one (p .0) (q .0), one (p .1) (q .1))
 
 pub day-clear-determined : (κs : _) (a : _) (z w : _) (e f : _) → day-clear.Learnt κs a z e → day-clear.Learnt κs a w f → (z ≡ w) × (now (e .0) ≡ now (f .0))
 day-clear-determined κs a z w e f p q = one-outcome z w (now (e .0)) (now (f .0)) _ p q

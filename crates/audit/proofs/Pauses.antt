@@ -18,13 +18,16 @@ use Rattle.laws.proofs.PauseParts.{comma-mark, point-mark, never-two-values}
 use Rattle.answer.specs.Outcomes.{outcome}
 use Rattle.answer.specs.declared.Answer.{Answer}
 use Rattle.audit.proofs.Numbers.{among}
-use Rattle.pause.proofs.header_mark.Reads as pause-header-mark
-use Rattle.pause.proofs.read_text.Reads as pause-read-text
+use Rattle.pause_unit.proofs.is_rest.Reads as pause-is-rest
+use Rattle.pause_unit.proofs.with_unit.Reads as pause-with-unit
+use Rattle.pause_mark.proofs.header_mark.Reads as pause-header-mark
+use Rattle.pause_text.proofs.read_text.Reads as pause-read-text
 use Rattle.pause.proofs.read_field.Reads as pause-read-field
 use Rattle.line.proofs.with_mean.Reads as line-with-mean
 use Rattle.line.proofs.line_length.Reads as line-line-length
 use Rattle.line.proofs.put_line.Reads as line-put-line
 use Rattle.line.proofs.put_figures.Reads as line-put-figures
+use Rattle.pause_sum.proofs.added.Reads as pause-added
 use Rattle.ledger.proofs.report.Reads as ledger-report
 use Rattle.ledger.proofs.figures.Reads as ledger-figures
 use Rattle.aez.proofs.aez_pause.Reads as exported-pause
@@ -32,6 +35,12 @@ use Rattle.aez.proofs.aez_report.Reads as exported-report
 use Rattle.aez.proofs.aez_report_figures.Reads as exported-figures
 
 -- ---- One result
+
+pub pause-is-rest-determined : (κs : _) (a : _) (z w : _) (e f : _) → pause-is-rest.Learnt κs a z e → pause-is-rest.Learnt κs a w f → z ≡ w
+pause-is-rest-determined κs a z w e f p q = p ∙ sym q
+
+pub pause-with-unit-determined : (κs : _) (a : _) (z w : _) (e f : _) → pause-with-unit.Learnt κs a z e → pause-with-unit.Learnt κs a w f → z ≡ w
+pause-with-unit-determined κs a z w e f p q = p ∙ sym q
 
 pub pause-header-mark-determined : (κs : _) (a : _) (z w : _) (e f : _) → pause-header-mark.Learnt κs a z e → pause-header-mark.Learnt κs a w f → z ≡ w
 pause-header-mark-determined κs a z w e f p q = p ∙ sym q
@@ -45,6 +54,9 @@ pause-read-field-determined κs a z w e f p q = ap (λ (r : Pause). record { num
 pub exported-pause-determined : (κs : _) (a : _) (z w : _) (e f : _) → exported-pause.Learnt κs a z e → exported-pause.Learnt κs a w f
     → (z ≡ w) × (now (e .1 .1 .0) ≡ now (f .1 .1 .0))
 exported-pause-determined κs a z w e f p q = (p .0 ∙ sym (q .0), p .1 ∙ sym (q .1))
+
+pub pause-added-determined : (κs : _) (a : _) (z w : _) (e f : _) → pause-added.Learnt κs a z e → pause-added.Learnt κs a w f → z ≡ w
+pause-added-determined κs a z w e f p q = p ∙ sym q
 
 pub line-with-mean-determined : (κs : _) (a : _) (z w : _) (e f : _) → line-with-mean.Learnt κs a z e → line-with-mean.Learnt κs a w f → z ≡ w
 line-with-mean-determined κs a z w e f p q =

@@ -18,10 +18,11 @@ use Rattle.laws.proofs.DayNumbers.{value-four, digits-four}
 use Rattle.laws.proofs.DayWritten.{places-many, places-long}
 use Rattle.laws.proofs.DayWritten as written
 use Rattle.laws.proofs.DayReading.{IfRecords, RecordsWritten, records-written}
-use Rattle.day.specs.declared.Entry.{Entry}
-use Rattle.day.specs.declared.Step.the-variants.{To, Bad}
-use Rattle.day.specs.Walks.{recordOf, RecordStep, indexFrom, rightIndex}
-use Rattle.day.proofs.Sections.{one-left}
+use Rattle.day_steps.specs.declared.Entry.{Entry}
+use Rattle.day_steps.specs.declared.Step.the-variants.{To, Bad}
+use Rattle.day_steps.specs.Walks.{recordOf, RecordStep}
+use Rattle.day.specs.Checks.{indexFrom, rightIndex}
+use Rattle.day_steps.proofs.Sections.{one-left}
 
 -- ---- Strings that are compared
 

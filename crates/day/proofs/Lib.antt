@@ -1,6 +1,2 @@
-mod Steps
-mod Sections
 mod Index
 mod Whole
-pub mod Finding
-mod Listing

@@ -17,7 +17,7 @@ use Rattle.laws.proofs.Sealing.{same-equal}
 use Rattle.laws.proofs.DayWritten.{first-place, places-many, places-long}
 use Rattle.laws.proofs.DayReading.{IfHeaders, HeadersWritten, headers-written, IfRecords, RecordsWritten, records-written}
 use Rattle.day.specs.declared.Checked.the-variants as checked
-use Rattle.day.specs.Walks.{indexFrom, rightIndex, checkedAs}
+use Rattle.day.specs.Checks.{indexFrom, rightIndex, checkedAs}
 
 pub file-few : (f : Bytes) → length f < 4 → checked.Bad ≡ checkedAs (readDay f)
 unfolding readDay

@@ -1,3 +1,1 @@
-pub mod Walks
-pub mod Finds
-pub mod Lists
+pub mod Checks

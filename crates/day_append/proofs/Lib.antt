@@ -1,3 +1,1 @@
-mod Lent
-mod Growing
 mod Settles

@@ -7,9 +7,9 @@ use Prim.Native.Nat.{ℕ, _+_, _≤_, _<_}
 use native.Mathlib.Omega.{arith}
 use borrow.Author.Tests.{ltb-true, ltb-false, lt-ltb, le-ltb, le-leb, lt-leb, eq-eqb, ne-eqb}
 use lib.Dec.{eqb, leb, ltb}
-use lib.ListN.{length, take, drop, length-append}
-use lib.Seq.{length-take-le, take-at}
-use Rattle.paper.specs.Strings.{Bytes, if_then_else_}
+use lib.ListN.{length, take, drop}
+use lib.Seq.{length-take-le}
+use Rattle.paper.specs.Strings.{Bytes, Below, if_then_else_}
 use Rattle.paper.specs.Document01.{reading, Outcome, refused}
 use Rattle.paper.specs.DayFile.{Day, writeDay, longestFile, headerFits, readDay}
 use Rattle.paper.specs.DayEdits.{grown, appendFits, appendIn, appending}
@@ -21,17 +21,27 @@ use Rattle.header.specs.Places.{readAs}
 use Rattle.header.proofs.Fits.{reads-fits, bad-fits}
 use Rattle.laws.specs.Placing.{placed}
 use Rattle.day.specs.declared.Checked.the-variants as checked
-use Rattle.day.specs.Walks.{checkedAs}
+use Rattle.day.specs.Checks.{checkedAs}
 use Rattle.day_place.proofs.Held.{Counted}
-use Rattle.day_append.specs.Appended.{capped, taken, Ready, grownFile}
-use Rattle.day_append.proofs.Lent.{Asked}
+use Rattle.day_grow.specs.Grown.{Ready, grownFile}
+use Rattle.day_append.specs.Appended.{capped, taken}
 
--- ---- What is put
+-- ---- What is asked
 
--- what is put ends a longer front
-pub front-put : (at : ℕ) (w out : Bytes) (n : ℕ) → at + length w ≡ n → n ≤ length out → take n (placed at w out) ≡ take at out ++ w
-front-put at w out n e p =
-    take-at (take at out ++ w) (drop (at + length w) out) n (omega (arith, length-append (take at out) w, length-take-le at out (omega arith)))
+-- the file in the buffer reads, with these counts
+pub record Asked : Type 0 where
+  pub buffer : Bytes
+  pub low : Below 256 buffer
+  pub size : ℕ
+  pub inside : size ≤ length buffer
+  pub number : ℕ
+  pub header : Bytes
+  pub stretch : ℕ
+  pub sealed : Bytes
+  pub headers : ℕ
+  pub records : ℕ
+  pub first : ℕ
+  pub counted : Counted (take size buffer) headers records first
 
 -- ---- Whether it fits the layout
 

@@ -11,9 +11,9 @@ use Rattle.paper.specs.Document01.{Outcome, refused}
 use Rattle.paper.specs.DayFile.{Day, writeDay, readDay}
 use Rattle.paper.specs.DayEdits.{cleared, risingFrom, shrunk, clearIn, clearing}
 use Rattle.day.specs.declared.Checked.the-variants as checked
-use Rattle.day.specs.Walks.{checkedAs}
+use Rattle.day.specs.Checks.{checkedAs}
 use Rattle.day_place.proofs.Held.{Counted}
-use Rattle.day_clear.specs.Cleared.{Clearable, clearedFile, clearedBuffer}
+use Rattle.day_pack.specs.Cleared.{Clearable, clearedFile, clearedBuffer}
 
 module _ (B : Bytes) (size : ℕ) (dropped : List ℕ) where
   abbrev called : Outcome

@@ -1,8 +1,1 @@
-mod Table
-mod Beside
-mod Packs
-mod Turns
-mod Linked
-mod Steps
-mod Clears
 mod Answers

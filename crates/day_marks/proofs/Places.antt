@@ -18,7 +18,7 @@ use Rattle.laws.proofs.Tables.{getD-tab, length-tab}
 use Rattle.laws.proofs.DayWritten.{first-place, day-long}
 use Rattle.laws.proofs.DayReading.{read-write}
 use Rattle.laws.proofs.LedgerSums.{few-headers}
-use Rattle.day.specs.Finds.{headersIn, lengthPlace}
+use Rattle.day_find.specs.Finds.{headersIn, lengthPlace}
 use Rattle.day_marks.specs.Marks.{marksOf}
 
 -- past the last header stands the place after all of them

@@ -4,7 +4,7 @@ use mathlib.Core.Option.{Option}
 use Prim.Native.Nat.{ℕ, _*_}
 use Rattle.paper.specs.Strings.{tab}
 use Rattle.paper.specs.DayFile.{Day}
-use Rattle.day.specs.Finds.{lengthPlace}
+use Rattle.day_find.specs.Finds.{lengthPlace}
 
 -- entry i is the place of the length bytes of header 64·i; past the last header, the place after all of them
 unfoldable pub marksOf : Option Day → List ℕ

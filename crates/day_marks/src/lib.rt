@@ -1,10 +1,10 @@
 // Marks over the headers of a day file, request E12: where every 64th header stands. Whoever looks for the headers of all records then passes
 // at most 63 headers for each, and not all that stand before it.
-use day::Found;
+use day_find::Found;
 ghost use mathlib.Core.Path.{_≡_};
 ghost use Prim.Native.Nat.{_<_, min};
 ghost use Rattle.paper.specs.DayFile.{readDay};
-ghost use Rattle.day.specs.Finds.{headersIn, recordsIn, foundIn, FoundWithin};
+ghost use Rattle.day_find.specs.Finds.{headersIn, recordsIn, foundIn, FoundWithin};
 ghost use Rattle.day_marks.specs.Marks.{marksOf};
 
 fn smaller(a: usize, b: usize) -> usize
@@ -28,21 +28,21 @@ pub fn marks(file: &[u8], headers: usize) -> [u32; 205]
         marks[i] = at as u32;
         let from = smaller(64 * i, headers);
         let next = smaller(64 * i + 64, headers);
-        let place = day::place_from(file, from, at, next);
+        let place = day_find::place_from(file, from, at, next);
         at = place;
         i += 1;
     }
     marks
 }
 
-// Record k as `day::find` finds it, from the last mark that is not after its header.
+// Record k as `day_find::find` finds it, from the last mark that is not after its header.
 pub fn find(file: &[u8], marks: &[u32; 205], records: usize, k: usize) -> Found
     requires { ⌜ (records ≡ recordsIn (readDay (now file))) × (k < records) × (now marks ≡ marksOf (readDay (now file))) ⌝ }
     ensures { λ r. ⌜ r ≡ foundIn (readDay (now (file .entry))) k ⌝ }
     ensures within { λ r. ⌜ FoundWithin r (now (file .entry)) ⌝ }
 {
-    let e = day::entry_of(file, records, k);
+    let e = day_find::entry_of(file, records, k);
     let i = e.header / 64;
     let at = marks[i] as usize;
-    day::find_from(file, records, k, 64 * i, at)
+    day_find::find_from(file, records, k, 64 * i, at)
 }

@@ -12,10 +12,10 @@ use Rattle.laws.proofs.DayPlaces.{header-stands}
 use Rattle.answer.specs.Outcomes.{outcome, outcomeAt}
 use Rattle.answer.specs.declared.AnswerAt.{AnswerAt}
 use Rattle.day.specs.declared.Checked.the-variants as checked
-use Rattle.day.specs.declared.Found.{Found}
-use Rattle.day.specs.Walks.{checkedAs}
-use Rattle.day.specs.Finds.{recordsIn, foundAt, foundIn}
-use Rattle.day.proofs.Finding.{Stands}
+use Rattle.day_find.specs.declared.Found.{Found}
+use Rattle.day.specs.Checks.{checkedAs}
+use Rattle.day_find.specs.Finds.{recordsIn, foundAt, foundIn}
+use Rattle.day_find.proofs.Finding.{Stands}
 
 -- ---- 9
 

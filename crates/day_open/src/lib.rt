@@ -27,7 +27,7 @@ pub fn open(key: &[u8], file: &[u8], k: usize, out: &mut [u8]) -> Answer
             length: 0,
         };
     }
-    let f = day::find(file, records, k);
+    let f = day_find::find(file, records, k);
     let header_start = f.header_start;
     let header_end = f.header_end;
     let start = f.start;

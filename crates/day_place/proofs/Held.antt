@@ -7,7 +7,7 @@ use lib.ListN.{length}
 use Rattle.paper.specs.Strings.{Bytes}
 use Rattle.paper.specs.DayFile.{Day, firstPlace, readDay}
 use Rattle.day.specs.declared.Checked.the-variants as checked
-use Rattle.day.specs.Walks.{checkedAs}
+use Rattle.day.specs.Checks.{checkedAs}
 
 pub record Counted (file : Bytes) (headers records first : ℕ) : Type 0 where
   pub day : Day

@@ -10,7 +10,7 @@ use Rattle.paper.specs.Strings.{Bytes, digits}
 use Rattle.paper.specs.DayFile.{Record, writeRecord, writeRecords, placesFrom, writePlaces, value}
 use Rattle.laws.proofs.DayNumbers.{value-four}
 use Rattle.laws.proofs.DayWritten.{record-long, records-long, records-append}
-use Rattle.day.specs.Walks.{entryAt}
+use Rattle.day_steps.specs.Walks.{entryAt}
 use Rattle.day_place.specs.Walked.{endOf, placesOf}
 
 -- ---- How far it comes

@@ -2,7 +2,7 @@
 use mathlib.Core.List.{List, [], _∷_, _++_}
 use Prim.Native.Nat.{ℕ, zero, suc}
 use Rattle.paper.specs.Strings.{Bytes}
-use Rattle.day.specs.Walks.{entryAt}
+use Rattle.day_steps.specs.Walks.{entryAt}
 
 -- the place after n records, the first of which stands at a place
 unfoldable pub endOf : Bytes → ℕ → ℕ → ℕ

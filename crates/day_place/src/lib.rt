@@ -42,7 +42,7 @@ fn put_places(out: &mut [u8], first: usize, records: usize, at: usize)
     let mut i: usize = 0;
     while i < records {
         numbers::put_four(out, at + 4 + 4 * i, place);
-        let e = day::entry_at(&out[..at], place);
+        let e = day_steps::entry_at(&out[..at], place);
         place = e.end;
         i += 1;
     }

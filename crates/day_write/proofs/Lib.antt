@@ -1,4 +1,2 @@
-mod Walks
 pub mod Settles
-mod Puts
 pub mod Writes

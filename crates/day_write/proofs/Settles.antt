@@ -13,7 +13,8 @@ use Rattle.paper.specs.DayFile.{Record, Day, writeDay, longestFile, present, he
 use Rattle.laws.proofs.Sealing.{and-true}
 use Rattle.laws.proofs.DayWritten.{first-place, day-long}
 use Rattle.laws.proofs.DayLists.{HeadersListed, headers-listed, RecordsListed, records-listed}
-use Rattle.day_write.specs.Written.{recordsRight, sizeOf, settledFor}
+use Rattle.day_fit.specs.Fits.{recordsRight}
+use Rattle.day_write.specs.Settled.{sizeOf, settledFor}
 
 some-of : {A : Type 0} (o : Option A) → present o ≡ true → (x : A) × (o ≡ some x)
 some-of none e = absurd (let z : _≡_ {A = ℕ} 0 1 = cc in omega arith)

@@ -17,9 +17,11 @@ use Rattle.laws.proofs.DayWritten.{record-long, records-long, first-place, day-
 use Rattle.laws.proofs.DayLists.{headers-listed, records-listed}
 use Rattle.answer.specs.Outcomes.{outcome}
 use Rattle.laws.specs.Placing.{placed}
-use Rattle.day_write.specs.Written.{recordsRight, sizeOf, settledFor, headersWritten, recordsWritten, total, placesBy}
+use Rattle.day_fit.specs.Fits.{recordsRight}
+use Rattle.day_put.specs.Written.{headersWritten, recordsWritten, total, placesBy}
+use Rattle.day_write.specs.Settled.{sizeOf, settledFor}
 use Rattle.day_write.proofs.Settles.{Handed, unheaded, unrecorded, handed, Sized}
-use Rattle.day_write.proofs.Puts.{put-none, put-more, put-all}
+use Rattle.day_put.proofs.Puts.{put-none, put-more, put-all}
 
 -- ---- The places by the lengths
 

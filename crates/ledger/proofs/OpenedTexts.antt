@@ -23,8 +23,8 @@ use Rattle.laws.proofs.LedgerSums.{IfMark, header-mark}
 use Rattle.record.specs.declared.Refusal.{Refusal}
 use Rattle.record.specs.Settled.{settledOpening}
 use Rattle.record.proofs.Settles.{opening-fits, opening-refused, opening-opened}
-use Rattle.pause.specs.declared.Read.{Read}
-use Rattle.pause.specs.declared.Read.the-variants as read
+use Rattle.pause_unit.specs.declared.Read.{Read}
+use Rattle.pause_unit.specs.declared.Read.the-variants as read
 use Rattle.ledger.specs.Pauses.{takenAs}
 
 -- ---- A string that opens

@@ -17,8 +17,8 @@ use Rattle.paper.specs.Ledger.{pausesOf, reportOf, put, reportIn}
 use Rattle.answer.specs.Outcomes.{outcome}
 use Rattle.laws.specs.Placing.{placed}
 use Rattle.day.specs.declared.Checked.the-variants as checked
-use Rattle.day.specs.Walks.{checkedAs}
-use Rattle.day.specs.Finds.{headersIn}
+use Rattle.day.specs.Checks.{checkedAs}
+use Rattle.day_find.specs.Finds.{headersIn}
 use Rattle.line.specs.declared.Report.{Report}
 use Rattle.line.specs.Reports.{meaning}
 use Rattle.ledger.specs.declared.Told.{Told}

@@ -15,11 +15,12 @@ use Rattle.paper.specs.DayFile.{Day, readDay}
 use Rattle.paper.specs.Pause.{Pause, noPause}
 use Rattle.paper.specs.Ledger.{pauseOf, pausesOf, readCount, refusedCount, sumOf, longestOf}
 use Rattle.laws.proofs.LedgerSums.{read-or-refused, few-pauses, sum-below}
-use Rattle.pause.specs.declared.Read.{Read}
-use Rattle.pause.specs.declared.Read.the-variants as read
+use Rattle.pause_unit.specs.declared.Read.{Read}
+use Rattle.pause_unit.specs.declared.Read.the-variants as read
 use Rattle.line.specs.declared.Totals.{Totals}
-use Rattle.day.specs.Finds.{recordsIn}
-use Rattle.ledger.specs.Pauses.{takenAs, pausesIn, totalsOf, addedTo, microsecondsIn}
+use Rattle.day_find.specs.Finds.{recordsIn}
+use Rattle.pause_sum.specs.Added.{addedTo, microsecondsIn}
+use Rattle.ledger.specs.Pauses.{takenAs, pausesIn, totalsOf}
 
 max-assoc : (a b c : ℕ) → max a (max b c) ≡ max (max a b) c
 max-assoc a b c =

@@ -15,13 +15,14 @@ use Rattle.paper.specs.Pause.{Pause, noPause, headerMark, readPause, pauseRead,
 use Rattle.paper.specs.Ledger.{openedPause, pauseOf, pausesOf}
 use Rattle.answer.specs.Outcomes.{outcomeAt}
 use Rattle.answer.specs.declared.AnswerAt.{AnswerAt}
-use Rattle.pause.specs.declared.Mark.the-variants as mark
-use Rattle.pause.specs.declared.Read.the-variants as read
-use Rattle.pause.specs.Answers.{readAs, knownAs, markAs}
+use Rattle.pause_mark.specs.declared.Mark.the-variants as mark
+use Rattle.pause_unit.specs.declared.Read.the-variants as read
+use Rattle.pause_unit.specs.Answers.{readAs}
+use Rattle.pause_mark.specs.Marks.{knownAs, markAs}
 use Rattle.pause.proofs.Fields.{by-mark}
-use Rattle.day.specs.declared.Found.{Found}
-use Rattle.day.specs.Finds.{foundIn}
-use Rattle.day.proofs.Finding.{Stands}
+use Rattle.day_find.specs.declared.Found.{Found}
+use Rattle.day_find.specs.Finds.{foundIn}
+use Rattle.day_find.proofs.Finding.{Stands}
 use Rattle.day_open.proofs.Opens.{header-part, sealed-part, stretch-is}
 use Rattle.ledger.specs.Pauses.{takenAs, pauseAt}
 use Rattle.ledger.proofs.OpenedTexts.{by-opened, unopened, either-way}

@@ -1,15 +1,15 @@
 -- What the functions of the ledger answer, by the definitions.
 use mathlib.Core.List.{List, []}
 use mathlib.Core.Option.{Option, none, some}
-use Prim.Native.Nat.{ℕ, _+_, max}
+use Prim.Native.Nat.{ℕ}
 use lib.Dec.{eqb}
 use lib.ListN.{getD}
 use Rattle.paper.specs.Strings.{Bytes, if_then_else_}
 use Rattle.paper.specs.DayFile.{Day}
 use Rattle.paper.specs.Pause.{Pause, noPause}
 use Rattle.paper.specs.Ledger.{pausesOf, readCount, refusedCount, sumOf, longestOf}
-use Rattle.pause.specs.declared.Read.{Read}
-use Rattle.pause.specs.declared.Read.the-variants as read
+use Rattle.pause_unit.specs.declared.Read.{Read}
+use Rattle.pause_unit.specs.declared.Read.the-variants as read
 use Rattle.line.specs.declared.Totals.{Totals}
 
 -- a pause that was read, and any refusal
@@ -27,12 +27,3 @@ pauseAt key o k = getD (pausesIn key o) k (noPause 9)
 
 abbrev pub totalsOf : List Pause → Totals
 totalsOf ps = record { read = readCount ps; refused = refusedCount ps; sum = sumOf ps; longest = longestOf ps }
-
--- the totals with one more
-abbrev pub addedTo : Totals → Read → Totals
-addedTo t read.Bad = record { read = t .read; refused = t .refused + 1; sum = t .sum; longest = t .longest }
-addedTo t (read.Pause n) = record { read = t .read + 1; refused = t .refused; sum = t .sum + n; longest = max (t .longest) n }
-
-abbrev pub microsecondsIn : Read → ℕ
-microsecondsIn read.Bad = 0
-microsecondsIn (read.Pause n) = n

@@ -6,20 +6,20 @@ use answer::StretchBytes;
 use day::Checked;
 use line::Report;
 use line::Totals;
-use pause::Mark;
-use pause::Read;
+use pause_mark::Mark;
+use pause_unit::Read;
 ghost use mathlib.Core.Path.{_≡_};
-ghost use Prim.Native.Nat.{_+_, _<_, max};
+ghost use Prim.Native.Nat.{_<_};
 ghost use lib.ListN.{length, replicate};
 ghost use Rattle.paper.specs.Document01.{readHeader};
 ghost use Rattle.paper.specs.DayFile.{readDay};
 ghost use Rattle.paper.specs.Ledger.{openedPause, reportOf, reporting, reportingFigures};
 ghost use Rattle.answer.specs.Outcomes.{outcome};
-ghost use Rattle.day.specs.Finds.{headersIn, recordsIn};
+ghost use Rattle.day_find.specs.Finds.{headersIn, recordsIn};
 ghost use Rattle.day_marks.specs.Marks.{marksOf};
-ghost use Rattle.pause.specs.Answers.{markAs};
+ghost use Rattle.pause_mark.specs.Marks.{markAs};
 ghost use Rattle.line.specs.Reports.{meaning};
-ghost use Rattle.ledger.specs.Pauses.{takenAs, pausesIn, pauseAt, totalsOf, addedTo, microsecondsIn};
+ghost use Rattle.ledger.specs.Pauses.{takenAs, pausesIn, pauseAt, totalsOf};
 ghost use Rattle.ledger.specs.Reports.{reportedAs};
 
 // The report of a file, or the number by which it is refused.
@@ -38,7 +38,7 @@ fn open_in(key: &[u8], header: &[u8], stretch: u64, sealed: &[u8], mark: u8, out
         return Read::Bad;
     }
     let length = answer.length;
-    pause::read_text(mark, &out[0..length])
+    pause_text::read_text(mark, &out[0..length])
 }
 
 // The pause of a sealed string under a header. A pause has at most 16 bytes and a stretch at most 64, so a longer string is refused unopened:
@@ -50,7 +50,7 @@ fn pause_of(key: &[u8], header: &[u8], stretch: u64, sealed: &[u8]) -> Read
     if 80 < n {
         return Read::Bad;
     }
-    let Mark::Is(mark) = pause::header_mark(header) else {
+    let Mark::Is(mark) = pause_mark::header_mark(header) else {
         return Read::Bad;
     };
     let mut buffer = [0u8; 80];
@@ -75,39 +75,6 @@ fn pause_at(key: &[u8], file: &[u8], marks: &[u32; 205], records: usize, k: usiz
     )
 }
 
-fn larger(a: u64, b: u64) -> u64
-    ensures { λ r. ⌜ r ≡ max a b ⌝ }
-{
-    if a < b {
-        return b;
-    }
-    a
-}
-
-// The totals with one record more.
-fn added(t: Totals, pause: Read) -> Totals
-    requires { ⌜ (t .read < 65536) × (t .refused < 65536) × (t .sum + microsecondsIn pause < 18446744073709551616) ⌝ }
-    ensures { λ r. ⌜ r ≡ addedTo t pause ⌝ }
-{
-    match pause {
-        Read::Bad => Totals {
-            read: t.read,
-            refused: t.refused + 1,
-            sum: t.sum,
-            longest: t.longest,
-        },
-        Read::Pause(n) => {
-            let longest = larger(t.longest, n);
-            Totals {
-                read: t.read + 1,
-                refused: t.refused,
-                sum: t.sum + n,
-                longest,
-            }
-        }
-    }
-}
-
 // The totals of a file that reads and has so many headers and records.
 fn totals(key: &[u8], file: &[u8], headers: usize, records: usize) -> Totals
     requires { ⌜ (headers ≡ headersIn (readDay (now file))) × (records ≡ recordsIn (readDay (now file))) ⌝ }
@@ -123,7 +90,7 @@ fn totals(key: &[u8], file: &[u8], headers: usize, records: usize) -> Totals
     let mut k: usize = 0;
     while k < records {
         let pause = pause_at(key, file, &marks, records, k);
-        let more = added(t, pause);
+        let more = pause_sum::added(t, pause);
         t = more;
         k += 1;
     }

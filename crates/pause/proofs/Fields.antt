@@ -6,11 +6,12 @@ use Prim.Native.Nat.{ℕ}
 use Rattle.paper.specs.Strings.{Bytes}
 use Rattle.paper.specs.Document01.{readHeader}
 use Rattle.paper.specs.Pause.{Pause, noPause, headerMark, readPause, pauseRead, pauseUnder, pauseWith, pausing}
-use Rattle.pause.specs.declared.Mark.{Mark}
-use Rattle.pause.specs.declared.Mark.the-variants as mark
-use Rattle.pause.specs.declared.Read.{Read}
-use Rattle.pause.specs.declared.Read.the-variants as read
-use Rattle.pause.specs.Answers.{readAs, knownAs, markAs}
+use Rattle.pause_mark.specs.declared.Mark.{Mark}
+use Rattle.pause_mark.specs.declared.Mark.the-variants as mark
+use Rattle.pause_unit.specs.declared.Read.{Read}
+use Rattle.pause_unit.specs.declared.Read.the-variants as read
+use Rattle.pause_unit.specs.Answers.{readAs}
+use Rattle.pause_mark.specs.Marks.{knownAs, markAs}
 
 -- what a header and a text come to
 abbrev pub pauseAs : Mark → Bytes → Pause

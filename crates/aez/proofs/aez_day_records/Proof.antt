@@ -5,7 +5,7 @@ use Prim.Native.Nat.{ℕ}
 use Rattle.paper.specs.Strings.{Bytes}
 use Rattle.paper.specs.DayFile.{Day, readDay, counted, counting}
 use Rattle.day.specs.declared.Checked.the-variants as checked
-use Rattle.day.specs.Walks.{checkedAs}
+use Rattle.day.specs.Checks.{checkedAs}
 use borrow.Author.Needs.{needs}
 use Rattle.aez.proofs.aez_day_records.Statement.{statement}
 use Rattle.aez.proofs.aez_day_records.Tie as tie

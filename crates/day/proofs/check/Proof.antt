@@ -4,8 +4,8 @@ use Prim.Native.Nat.{ℕ}
 use native.Mathlib.Omega.{arith}
 use Rattle.paper.specs.Strings.{Bytes, Below}
 use Rattle.laws.proofs.Digits.{below-of}
-use Rattle.day.specs.declared.Walk.the-variants.{To}
-use Rattle.day.specs.Walks.{HeadersWalk}
+use Rattle.day_steps.specs.declared.Walk.the-variants.{To}
+use Rattle.day_steps.specs.Walks.{HeadersWalk}
 use Rattle.day.proofs.Whole.{file-few, file-long, headers-bad, records-few, file-reads, file-bad, too-many}
 use borrow.Author.Needs.{needs}
 use Rattle.day.proofs.check.Statement.{statement}

@@ -8,10 +8,11 @@ use lib.ListN.{length, drop}
 use Rattle.paper.specs.Strings.{Below}
 use Rattle.paper.specs.DayFile.{readRecords}
 use Rattle.laws.proofs.Digits.{below-of}
-use Rattle.day.specs.declared.Entry.{Entry}
-use Rattle.day.specs.declared.Step.{Step}
-use Rattle.day.specs.declared.Step.the-variants.{To, Bad}
-use Rattle.day.specs.Walks.{RecordStep, rightIndex}
+use Rattle.day_steps.specs.declared.Entry.{Entry}
+use Rattle.day_steps.specs.declared.Step.{Step}
+use Rattle.day_steps.specs.declared.Step.the-variants.{To, Bad}
+use Rattle.day_steps.specs.Walks.{RecordStep}
+use Rattle.day.specs.Checks.{rightIndex}
 use Rattle.day.proofs.Index.{pending, begun, records-turn, records-wrong, records-stop, count-wrong, count-last}
 use Rattle.day.proofs.records_right.Statement.{statement}
 use Rattle.day.proofs.records_right.Tie as tie

@@ -7,8 +7,7 @@ use lib.Seq.{length-take-le}
 use Rattle.paper.specs.DayEdits.{appendFits}
 use Rattle.laws.proofs.Digits.{below-of}
 use Rattle.day_place.proofs.Held.{counted}
-use Rattle.day_append.proofs.Lent.{Asked}
-use Rattle.day_append.proofs.Settles.{past-buffer, unread, size-short, unfit, too-long, no-room, ready, appended}
+use Rattle.day_append.proofs.Settles.{Asked, past-buffer, unread, size-short, unfit, too-long, no-room, ready, appended}
 use borrow.Author.Needs.{needs}
 use Rattle.day_append.proofs.append.Statement.{statement}
 use Rattle.day_append.proofs.append.Tie as tie

@@ -5,7 +5,7 @@ use native.Mathlib.Omega.{arith}
 use borrow.Author.Needs.{needs}
 use lib.ListN.{length, drop}
 use Rattle.paper.specs.DayEdits.{risingFrom}
-use Rattle.day_clear.proofs.Beside.{rising-low, rising-absent, rising-turn, rising-end}
+use Rattle.day_pack.proofs.Beside.{rising-low, rising-absent, rising-turn, rising-end}
 use Rattle.day_clear.proofs.rising.Statement.{statement}
 use Rattle.day_clear.proofs.rising.Tie as tie
 

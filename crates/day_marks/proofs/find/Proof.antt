@@ -8,8 +8,8 @@ use lib.ListN.{getD}
 use Rattle.paper.specs.Strings.{Bytes, Below}
 use Rattle.paper.specs.DayFile.{readDay}
 use Rattle.laws.proofs.Digits.{below-of}
-use Rattle.day.specs.declared.Entry.{Entry}
-use Rattle.day.specs.Finds.{lengthPlace}
+use Rattle.day_steps.specs.declared.Entry.{Entry}
+use Rattle.day_find.specs.Finds.{lengthPlace}
 use Rattle.day_marks.proofs.Places.{places-short, mark-at, marked}
 use Rattle.day_marks.proofs.find.Statement.{statement}
 use Rattle.day_marks.proofs.find.Tie as tie

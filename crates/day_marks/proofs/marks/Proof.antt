@@ -9,8 +9,8 @@ use Rattle.paper.specs.Strings.{Below}
 use Rattle.paper.specs.DayFile.{Day, readDay}
 use Rattle.laws.proofs.Digits.{below-of}
 use Rattle.laws.proofs.Fronts.{Front, front-more, front-all}
-use Rattle.day.specs.Finds.{lengthPlace}
-use Rattle.day.proofs.Finding.{first-header}
+use Rattle.day_find.specs.Finds.{lengthPlace}
+use Rattle.day_find.proofs.Finding.{first-header}
 use Rattle.day_marks.specs.Marks.{marksOf}
 use Rattle.day_marks.proofs.Places.{place-smaller, places-short, marks-many, mark-at}
 use Rattle.day_marks.proofs.marks.Statement.{statement}

@@ -6,9 +6,9 @@ use Rattle.paper.specs.Strings.{Bytes, Below}
 use Rattle.paper.specs.DayFile.{readDay}
 use Rattle.laws.proofs.Digits.{below-of}
 use Rattle.day.specs.declared.Checked.the-variants as checked
-use Rattle.day.specs.Walks.{checkedAs}
-use Rattle.day.specs.Finds.{recordsIn}
-use Rattle.day.proofs.Finding.{Stands, stands}
+use Rattle.day.specs.Checks.{checkedAs}
+use Rattle.day_find.specs.Finds.{recordsIn}
+use Rattle.day_find.proofs.Finding.{Stands, stands}
 use Rattle.day_open.proofs.Opens.{opens-unread, checked-records, opens-absent, opens-found}
 use borrow.Author.Needs.{needs}
 use Rattle.day_open.proofs.open.Statement.{statement}

@@ -12,8 +12,8 @@ use Rattle.laws.proofs.BitStrings.{length-digits}
 use Rattle.laws.proofs.DayWritten.{places-long}
 use Rattle.laws.specs.Placing.{placed}
 use Rattle.laws.proofs.Placed.{placed-then}
-use Rattle.day.specs.declared.Entry.{Entry}
-use Rattle.day.specs.Walks.{entryAt}
+use Rattle.day_steps.specs.declared.Entry.{Entry}
+use Rattle.day_steps.specs.Walks.{entryAt}
 use Rattle.day_place.specs.Walked.{endOf, placesOf}
 use Rattle.day_place.proofs.Moved.{placed-none, placed-before}
 use Rattle.day_place.proofs.Walk.{rises, end-more, places-more, places-count, write-more}

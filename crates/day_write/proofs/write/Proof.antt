@@ -4,7 +4,7 @@ use Prim.Native.Nat.{_+_, _*_}
 use native.Mathlib.Omega.{arith}
 use lib.ListN.{length}
 use Rattle.paper.specs.DayFile.{headersOf, recordsOf}
-use Rattle.day_write.specs.Written.{headersWritten, recordsWritten}
+use Rattle.day_put.specs.Written.{headersWritten, recordsWritten}
 use Rattle.day_write.proofs.Writes.{write-refused, Accepted, accepted, heads-long, records-long-here, total-is, wrote}
 use borrow.Author.Needs.{needs}
 use Rattle.day_write.proofs.write.Statement.{statement}

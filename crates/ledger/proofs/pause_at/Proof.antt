@@ -3,7 +3,7 @@ use mathlib.Core.Path.{ap, _∙_}
 use native.Mathlib.Omega.{arith}
 use Rattle.paper.specs.Strings.{Below}
 use Rattle.laws.proofs.Digits.{below-of}
-use Rattle.day.proofs.Finding.{Stands, stands}
+use Rattle.day_find.proofs.Finding.{Stands, stands}
 use Rattle.ledger.specs.Pauses.{takenAs}
 use Rattle.ledger.proofs.Taken.{found-pause}
 use borrow.Author.Needs.{needs}

@@ -6,7 +6,7 @@ use borrow.Author.Needs.{needs}
 use Rattle.paper.specs.Strings.{Bytes}
 use Rattle.paper.specs.DayFile.{Day, readDay}
 use Rattle.day.specs.declared.Checked.the-variants as checked
-use Rattle.day.specs.Walks.{checkedAs}
+use Rattle.day.specs.Checks.{checkedAs}
 use Rattle.day_open.proofs.Opens.{checked-records}
 use Rattle.ledger.proofs.Settled.{checked-headers, unread, no-key, is-report}
 use Rattle.ledger.proofs.reported.Statement.{statement}

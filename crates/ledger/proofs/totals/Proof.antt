@@ -9,7 +9,7 @@ use Rattle.paper.specs.Strings.{Below}
 use Rattle.paper.specs.DayFile.{readDay}
 use Rattle.paper.specs.Pause.{Pause}
 use Rattle.laws.proofs.Digits.{below-of}
-use Rattle.day.specs.Finds.{recordsIn}
+use Rattle.day_find.specs.Finds.{recordsIn}
 use Rattle.ledger.specs.Pauses.{pausesIn}
 use Rattle.ledger.proofs.Sums.{Added, none-added, all-added, one-added, pauses-are, room}
 use Rattle.ledger.proofs.totals.Statement.{statement}

@@ -1,0 +1,2 @@
+mod Steps
+pub mod Sections
