@@ -11,6 +11,8 @@ pub mod Digits
 pub mod BitStrings
 pub mod BitBytes
 pub mod Bitwise
+pub mod WordBits
+pub mod Exchange
 pub mod Padding
 pub mod Joins
 -- FIPS 197, section 7, and the block function of Figure 6
