@@ -1,4 +1,2 @@
-mod Bits
 mod Moves
 mod States
-mod Lanes

@@ -1,2 +1,1 @@
 pub mod Planes
-pub mod Circuit

@@ -1,14 +1,14 @@
 // SubBytes of FIPS 197 on a state of four columns, by a fixed sequence of operations and with no table: no address depends on a byte of the
 // state. The bits of the sixteen bytes are moved to planes, eight words of which word j has bit j of each byte; there the circuit of Boyar
-// and Peralta works on all bytes at once; and the bits are moved back.
+// and Peralta works on all bytes at once (`circuit`); and the bits are moved back.
 use columns::Columns;
 ghost use mathlib.Core.Path.{_≡_};
 ghost use Prim.Native.Nat.{_<_};
 ghost use Rattle.paper.specs.Fips197.{bit, SubBytes};
+ghost use Rattle.laws.proofs.WordBits.{wordOf};
+ghost use Rattle.laws.proofs.Exchange.{lower, upper};
 ghost use Rattle.columns.specs.Columns.{columnsOf, blockOf};
-ghost use Rattle.sub_bytes.specs.Planes.{word, lower, upper, crossed, joinedBit, planeBytes};
-
-mod circuit;
+ghost use Rattle.sub_bytes.specs.Planes.{crossed, joinedBit, planeBytes};
 
 struct Pair {
     a: u32,
@@ -18,7 +18,7 @@ struct Pair {
 // The bits of a where m has a 1 change places with those of b that stand n above them.
 fn exchanged(a: u32, b: u32, n: u32, m: u32) -> Pair
     requires { ⌜ n < 32 ⌝ }
-    ensures { λ r. ⌜ (r .a ≡ word (lower n m (bit a) (bit b))) × (r .b ≡ word (upper n m (bit a) (bit b))) ⌝ }
+    ensures { λ r. ⌜ (r .a ≡ wordOf 32 (lower n m (bit a) (bit b))) × (r .b ≡ wordOf 32 (upper n m (bit a) (bit b))) ⌝ }
 {
     let t = ((b >> n) ^ a) & m;
     Pair {
@@ -45,27 +45,43 @@ fn crossed(s: Columns) -> Columns
 
 // A state on planes. Word w, turned over, has bit w of every byte in the low half-bytes and bit w + 4 in the high ones; what then stands in
 // the high half-bytes of a plane belongs to no byte.
-fn planes(s: Columns) -> [u32; 8]
+fn planes(s: Columns) -> [u64; 8]
     ensures { λ r. ⌜ planeBytes r ≡ blockOf s ⌝ }
 {
     let w = crossed(s);
     [
-        w[0],
-        w[1],
-        w[2],
-        w[3],
-        w[0] >> 4,
-        w[1] >> 4,
-        w[2] >> 4,
-        w[3] >> 4,
+        w[0] as u64,
+        w[1] as u64,
+        w[2] as u64,
+        w[3] as u64,
+        (w[0] as u64) >> 4,
+        (w[1] as u64) >> 4,
+        (w[2] as u64) >> 4,
+        (w[3] as u64) >> 4,
     ]
 }
 
 // The low half-bytes of a, and those of b as the high ones.
 fn joined(a: u32, b: u32) -> u32
-    ensures { λ r. ⌜ r ≡ word (joinedBit (bit a) (bit b)) ⌝ }
+    ensures { λ r. ⌜ r ≡ wordOf 32 (joinedBit (bit a) (bit b)) ⌝ }
 {
     a ^ (((b << 4) ^ a) & 0xf0f0_f0f0)
+}
+
+// The lower halves of the planes, in which the bytes stand.
+fn low_halves(q: [u64; 8]) -> [u32; 8]
+    ensures { λ r. ⌜ planeBytes r ≡ planeBytes q ⌝ }
+{
+    [
+        (q[0] % 4294967296) as u32,
+        (q[1] % 4294967296) as u32,
+        (q[2] % 4294967296) as u32,
+        (q[3] % 4294967296) as u32,
+        (q[4] % 4294967296) as u32,
+        (q[5] % 4294967296) as u32,
+        (q[6] % 4294967296) as u32,
+        (q[7] % 4294967296) as u32,
+    ]
 }
 
 // The columns of a state on planes.
@@ -85,5 +101,6 @@ pub fn sub_bytes(s: Columns) -> Columns
 {
     let q = planes(s);
     let r = circuit::circuit(q);
-    columns(r)
+    let h = low_halves(r);
+    columns(h)
 }

@@ -1,5 +1,5 @@
 -- `sub_bytes::exchanged` meets its contract.
-use Rattle.sub_bytes.proofs.Moves.{lower-word, upper-word}
+use Rattle.laws.proofs.Exchange.{lower-word, upper-word}
 use borrow.Author.Needs.{needs}
 use Rattle.sub_bytes.proofs.exchanged.Statement.{statement}
 use Rattle.sub_bytes.proofs.exchanged.Tie as tie
@@ -8,8 +8,8 @@ returns : tie.Need-returns
 returns c =
     let x = c .args in
     let f = c .fits in (
-      lower-word (x .a) (x .b) (x .n) (x .m) (f .a .fits) (f .b .fits) (f .m .fits),
-      upper-word (x .a) (x .b) (x .n) (x .m) (f .a .fits) (f .b .fits) (f .m .fits),
+      lower-word 32 (x .a) (x .b) (x .n) (x .m) (f .a .fits) (f .b .fits) (f .m .fits),
+      upper-word 32 (x .a) (x .b) (x .n) (x .m) (f .a .fits) (f .b .fits) (f .m .fits),
     )
 
 pub exchanged-spec : {M : Type 1} → statement M

@@ -6,12 +6,12 @@ use native.Mathlib.Omega.{arith}
 use lib.Bits.{bitXor, bitAnd}
 use lib.ListN.{length, getD, length-map, List·getD-map}
 use Rattle.paper.specs.Strings.{Below, tab}
-use Rattle.paper.specs.Fips197.{bit, sbox, SubBytes}
+use Rattle.paper.specs.Fips197.{bit, sbox}
 use Rattle.laws.proofs.Tables.{getD-tab, tab-entries}
 use Rattle.sbox_rule.proofs.SBox.{rule}
-use Rattle.sub_bytes.specs.Planes.{number, lane, place, planeBytes}
-use Rattle.sub_bytes.specs.Circuit.{sums, norm, inverse16, products, outputs, entry, circuit}
-use Rattle.sub_bytes.proofs.Bits.{bit-lt, bit-zero, bit-xor, bit-and, bit-ones, bit-number, number-bits, tab-same}
+use Rattle.circuit.specs.Planes.{lane}
+use Rattle.circuit.specs.Circuit.{sums, norm, inverse16, products, outputs, entry, circuit}
+use Rattle.laws.proofs.WordBits.{number, bit-lt, bit-zero, bit-xor, bit-and, bit-number, number-bits, tab-same}
 
 -- ---- one lane of gates on words
 
@@ -100,38 +100,54 @@ computed : tab 256 (λ n. number (circuit 1 (tab 8 (bit n)))) ≡ tab 256 sbox
 unfolding circuit
 computed = sym rule
 
-pub circuit-byte : (n : ℕ) → n < 256 → number (circuit 1 (tab 8 (bit n))) ≡ sbox n
+circuit-byte : (n : ℕ) → n < 256 → number (circuit 1 (tab 8 (bit n))) ≡ sbox n
 circuit-byte n h =
     sym (getD-tab 256 n (λ n. number (circuit 1 (tab 8 (bit n)))) h)
     ∙ ap (λ (l : List ℕ). getD l n 0) computed
     ∙ getD-tab 256 n sbox h
 
 -- eight bits are those of their number, which is a byte
-bits-of : (l : List ℕ) → length l ≡ 8 → Below 2 l → l ≡ tab 8 (bit (number l))
+pub bits-of : (l : List ℕ) → length l ≡ 8 → Below 2 l → l ≡ tab 8 (bit (number l))
 bits-of l e h =
     tab-entries 8 l e ∙ sym (tab-same 0 8 (bit (number l)) (λ i. getD l i 0) (λ i b. bit-number l i h))
 
-byte-of : (l : List ℕ) → length l ≡ 8 → Below 2 l → number l < 256
+pub byte-of : (l : List ℕ) → length l ≡ 8 → Below 2 l → number l < 256
 byte-of l e h =
     let low : number l ≡ number l / 1 % 256 = ap number (bits-of l e h) ∙ number-bits 0 8 (number l) in
     omega arith
 
 -- ---- every lane
 
-circuit-sbox : (q : List ℕ) (k : ℕ) → length q ≡ 8 → k < 32 → lane (circuit 0xffffffff q) k ≡ sbox (lane q k)
+-- bit k of the word of ones
+ones-table : tab 64 (bit 0xffffffffffffffff) ≡ tab 64 (λ k. 1)
+ones-table = refl
+
+pub bit-ones : (k : ℕ) → k < 64 → bit 0xffffffffffffffff k ≡ 1
+bit-ones k h = sym (getD-tab 64 k (bit 0xffffffffffffffff) h) ∙ ap (λ (l : List ℕ). getD l k 0) ones-table ∙ getD-tab 64 k (λ k. 1) h
+
+circuit-sbox : (q : List ℕ) (k : ℕ) → length q ≡ 8 → k < 64 → lane (circuit 0xffffffffffffffff q) k ≡ sbox (lane q k)
 unfolding circuit
 circuit-sbox q k e h =
     let l = inLane k q in
     let long : length l ≡ 8 = length-map q (λ w. bit w k) ∙ e in
-    lane-number k (circuit 0xffffffff q) refl
-    ∙ ap number (circuit-lane k 0xffffffff q)
+    lane-number k (circuit 0xffffffffffffffff q) refl
+    ∙ ap number (circuit-lane k 0xffffffffffffffff q)
     ∙ ap₂ (λ (o : ℕ) (m : List ℕ). number (circuit o m)) (bit-ones k h) (bits-of l long (in-lane-bits k q))
     ∙ circuit-byte (number l) (byte-of l long (in-lane-bits k q))
     ∙ ap sbox (sym (lane-number k q e))
 
-pub circuit-bytes : (q r : List ℕ) → length q ≡ 8 → r ≡ circuit 0xffffffff q → planeBytes r ≡ SubBytes (planeBytes q)
-unfolding planeBytes SubBytes
-circuit-bytes q r e h =
-    ap (λ (l : List ℕ). tab 16 (λ i. lane l (place i))) h
-    ∙ tab-same 0 16 (λ i. lane (circuit 0xffffffff q) (place i)) (λ i. sbox (lane q (place i)))
-    (λ i b. circuit-sbox q (place i) e (omega arith))
+-- the parts one after the other are the circuit
+pub together : (q y n t z r : List ℕ) → y ≡ sums bitXor bitAnd (entry q) → n ≡ norm bitXor bitAnd (entry y)
+    → t ≡ inverse16 bitXor bitAnd (entry n) → z ≡ products bitXor bitAnd (entry y) (entry t)
+    → r ≡ outputs bitXor bitAnd 0xffffffffffffffff (entry z) → r ≡ circuit 0xffffffffffffffff q
+unfolding circuit
+together q y n t z r is-y is-n is-t is-z is-r =
+    let en = is-n ∙ ap (λ (l : List ℕ). norm bitXor bitAnd (entry l)) is-y in
+    let et = is-t ∙ ap (λ (l : List ℕ). inverse16 bitXor bitAnd (entry l)) en in
+    let ez = is-z ∙ ap₂ (λ (l m : List ℕ). products bitXor bitAnd (entry l) (entry m)) is-y et in
+    is-r ∙ ap (λ (l : List ℕ). outputs bitXor bitAnd 0xffffffffffffffff (entry l)) ez
+
+pub circuit-lanes : (q r : List ℕ) → length q ≡ 8 → r ≡ circuit 0xffffffffffffffff q → tab 64 (lane r) ≡ tab 64 (λ k. sbox (lane q k))
+circuit-lanes q r e h =
+    ap (λ (l : List ℕ). tab 64 (lane l)) h
+    ∙ tab-same 0 64 (lane (circuit 0xffffffffffffffff q)) (λ k. sbox (lane q k)) (λ k b. circuit-sbox q k e b)

@@ -1,13 +1,15 @@
-// The circuit of Boyar and Peralta for the S-box on bit planes, with their names and in their order (`specs/Circuit`). Bit k of each word
-// belongs to lane k, and a gate works on all lanes at once.
+// The S-box of FIPS 197 on bit planes, by the circuit of Boyar and Peralta, with their names and in their order (`specs/Circuit`): a fixed
+// sequence of operations, and no table. Plane j has bit j of 64 bytes, and a gate works on all of them at once. One block (`sub_bytes`) and
+// sixteen (`sixteen`) share it.
 ghost use mathlib.Core.Path.{_≡_};
 ghost use lib.Bits.{bitXor, bitAnd};
-ghost use Rattle.paper.specs.Fips197.{SubBytes};
-ghost use Rattle.sub_bytes.specs.Planes.{planeBytes};
-ghost use Rattle.sub_bytes.specs.Circuit.{sums, norm, inverse16, products, outputs, entry};
+ghost use Rattle.paper.specs.Strings.{tab};
+ghost use Rattle.paper.specs.Fips197.{sbox};
+ghost use Rattle.circuit.specs.Circuit.{sums, norm, inverse16, products, outputs, entry};
+ghost use Rattle.circuit.specs.Planes.{lane};
 
 // The sums of bits of the byte: x7, which is read again as it stands, and y1 to y21.
-fn sums(q: [u32; 8]) -> [u32; 22]
+pub fn sums(q: [u64; 8]) -> [u64; 22]
     ensures { λ r. ⌜ r ≡ sums bitXor bitAnd (entry q) ⌝ }
 {
     let x0 = q[7];
@@ -68,7 +70,7 @@ fn sums(q: [u32; 8]) -> [u32; 22]
 }
 
 // What is to be inverted in the field of 16: t21 to t24.
-fn norm(y: [u32; 22]) -> [u32; 4]
+pub fn norm(y: [u64; 22]) -> [u64; 4]
     ensures { λ r. ⌜ r ≡ norm bitXor bitAnd (entry y) ⌝ }
 {
     let t2 = y[12] & y[15];
@@ -94,7 +96,7 @@ fn norm(y: [u32; 22]) -> [u32; 4]
 }
 
 // Its inverse: t29, t33, t37 and t40.
-fn inverse16(t: [u32; 4]) -> [u32; 4]
+pub fn inverse16(t: [u64; 4]) -> [u64; 4]
     ensures { λ r. ⌜ r ≡ inverse16 bitXor bitAnd (entry t) ⌝ }
 {
     let t21 = t[0];
@@ -121,7 +123,7 @@ fn inverse16(t: [u32; 4]) -> [u32; 4]
 }
 
 // The inverse by the sums: z0 to z17.
-fn products(y: [u32; 22], t: [u32; 4]) -> [u32; 18]
+pub fn products(y: [u64; 22], t: [u64; 4]) -> [u64; 18]
     ensures { λ r. ⌜ r ≡ products bitXor bitAnd (entry y) (entry t) ⌝ }
 {
     let t29 = t[0];
@@ -156,7 +158,7 @@ fn products(y: [u32; 22], t: [u32; 4]) -> [u32; 18]
 }
 
 // The affine step, whose constant 63 turns four bits over. The lowest bit, s7, comes first.
-fn outputs(ones: u32, z: [u32; 18]) -> [u32; 8]
+pub fn outputs(ones: u64, z: [u64; 18]) -> [u64; 8]
     ensures { λ r. ⌜ r ≡ outputs bitXor bitAnd ones (entry z) ⌝ }
 {
     let t46 = z[15] ^ z[16];
@@ -192,13 +194,13 @@ fn outputs(ones: u32, z: [u32; 18]) -> [u32; 8]
     [s7, s6, s5, s4, s3, s2, s1, s0]
 }
 
-// The S-box of each byte of a state on planes.
-pub fn circuit(q: [u32; 8]) -> [u32; 8]
-    ensures { λ r. ⌜ planeBytes r ≡ SubBytes (planeBytes q) ⌝ }
+// The S-box of the byte in each lane.
+pub fn circuit(q: [u64; 8]) -> [u64; 8]
+    ensures { λ r. ⌜ tab 64 (lane r) ≡ tab 64 (λ k. sbox (lane q k)) ⌝ }
 {
     let y = sums(q);
     let t = norm(y);
     let v = inverse16(t);
     let z = products(y, v);
-    outputs(0xffff_ffff, z)
+    outputs(0xffff_ffff_ffff_ffff, z)
 }

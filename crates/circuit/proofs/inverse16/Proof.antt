@@ -1,9 +1,9 @@
--- `sub_bytes::circuit::inverse16` meets its contract: gate by gate the code is the circuit. It would be found without this file; with it a
+-- `circuit::inverse16` meets its contract: gate by gate the code is the circuit. It would be found without this file; with it a
 -- gate that differs is refused by the two sides printed.
 use mathlib.Core.Path.{refl}
 use borrow.Author.Needs.{needs}
-use Rattle.sub_bytes.proofs.circuit.inverse16.Statement.{statement}
-use Rattle.sub_bytes.proofs.circuit.inverse16.Tie as tie
+use Rattle.circuit.proofs.inverse16.Statement.{statement}
+use Rattle.circuit.proofs.inverse16.Tie as tie
 
 returns : tie.Need-returns
 returns c = refl
