@@ -1,15 +1,16 @@
 -- Every public function of every crate is determined by its contract: any two results that the contract allows for the same arguments are
--- equal, and so are any two contents of the lent buffer at exit. `Learnt` is a function's contract as its callers have it: the checker
+-- equal, and so are any two contents of the lent buffer at exit. Where the contract speaks of what the words of a result mean, as in
+-- `circuit`, `sixteen` and `strings`, that meaning is what is determined. `Learnt` is a function's contract as its callers have it: the checker
 -- makes it from the `ensures` in the source. In each theorem κs are lifetimes, a the arguments, z and w two results, e and f the
 -- parameters at two exits.
-use mathlib.Core.List.{List, []}
+use mathlib.Core.List.{List, [], map}
 use mathlib.Core.Option.{Option, none, some}
 use mathlib.Core.Path.{_≡_, refl, ap, sym, _∙_}
 use Prim.Native.Nat.{ℕ}
 use native.Mathlib.Omega.{arith}
 use lib.ListN.{length, drop, length-drop}
 use denote.Ref.{now, ptr}
-use Rattle.paper.specs.Strings.{Bytes}
+use Rattle.paper.specs.Strings.{Bytes, tab}
 use Rattle.paper.specs.Section7.{_·_}
 use Rattle.paper.specs.Figure6 as figure6
 use Rattle.paper.specs.Document01.{Outcome, OutcomeAt}
@@ -28,6 +29,9 @@ use Rattle.columns.specs.Columns.{columnsOf}
 use Rattle.tbc.specs.declared.Key.{Key}
 use Rattle.tbc.specs.Meaning.{blocks, Kept}
 use Rattle.multiples.specs.Eight.{multiples}
+use Rattle.circuit.specs.Planes.{lane}
+use Rattle.planes.specs.Planes.{planeBlock, upTo}
+use Rattle.strings.specs.Waiting.{soFar}
 use Rattle.block.proofs.xor.Reads as block-xor
 use Rattle.block.proofs.pad.Reads as block-pad
 use Rattle.block.proofs.number.Reads as block-number
@@ -59,10 +63,35 @@ use Rattle.tbc.proofs.Key.base.Reads as tbc-key-base
 use Rattle.tbc.proofs.Key.multiples.Reads as tbc-key-multiples
 use Rattle.tbc.proofs.Key.row_mask.Reads as tbc-key-row-mask
 use Rattle.tbc.proofs.Base.power.Reads as tbc-base-power
+use Rattle.planes.proofs.of_blocks.Reads as planes-of-blocks
+use Rattle.planes.proofs.to_blocks.Reads as planes-to-blocks
+use Rattle.planes.proofs.copies.Reads as planes-copies
+use Rattle.circuit.proofs.sums.Reads as circuit-sums
+use Rattle.circuit.proofs.norm.Reads as circuit-norm
+use Rattle.circuit.proofs.inverse16.Reads as circuit-inverse16
+use Rattle.circuit.proofs.products.Reads as circuit-products
+use Rattle.circuit.proofs.outputs.Reads as circuit-outputs
+use Rattle.circuit.proofs.circuit.Reads as circuit-circuit
+use Rattle.rows.proofs.turned.Reads as rows-turned
+use Rattle.rows.proofs.mixed.Reads as rows-mixed
+use Rattle.sixteen.proofs.round.Reads as sixteen-round
+use Rattle.sixteen.proofs.rounds4.Reads as sixteen-rounds4
+use Rattle.tbc.proofs.running_mask.Reads as tbc-running-mask
+use Rattle.tbc.proofs.keys_adding.Reads as tbc-keys-adding
+use Rattle.groups.proofs.xor.Reads as groups-xor
+use Rattle.groups.proofs.load.Reads as groups-load
+use Rattle.groups.proofs.sum.Reads as groups-sum
+use Rattle.groups.proofs.masks.Reads as groups-masks
+use Rattle.groups.proofs.keys.Reads as groups-keys
+use Rattle.groups.proofs.under0.Reads as groups-under0
+use Rattle.groups.proofs.under1.Reads as groups-under1
+use Rattle.groups.proofs.under2.Reads as groups-under2
+use Rattle.pass.proofs.added.Reads as pass-added
+use Rattle.pass.proofs.put_two.Reads as pass-put-two
+use Rattle.pass.proofs.all_pairs.Reads as pass-all-pairs
+use Rattle.tbc.proofs.Base.blocks.Reads as tbc-base-blocks
 use Rattle.tbc.proofs.e.Reads as tbc-e
 use Rattle.tbc.proofs.e_running.Reads as tbc-e-running
-use Rattle.tbc.proofs.e_full.Reads as tbc-e-full
-use Rattle.tbc.proofs.e_short.Reads as tbc-e-short
 use Rattle.tbc.proofs.next_power.Reads as tbc-next-power
 use Rattle.answer.proofs.StretchBytes.bits.Reads as answer-bits
 use Rattle.header.proofs.entry.Reads as header-entry
@@ -70,7 +99,9 @@ use Rattle.header.proofs.count.Reads as header-count
 use Rattle.header.proofs.read.Reads as header-read
 use Rattle.builder.proofs.put.Reads as builder-put
 use Rattle.builder.proofs.log_header.Reads as builder-log-header
-use Rattle.hash.proofs.string_hash.Reads as hash-string-hash
+use Rattle.strings.proofs.nothing.Reads as strings-nothing
+use Rattle.strings.proofs.add_string.Reads as strings-add-string
+use Rattle.strings.proofs.hashed.Reads as strings-hashed
 use Rattle.hash.proofs.delta.Reads as hash-delta
 use Rattle.hash.proofs.prf.Reads as hash-prf
 use Rattle.tiny.proofs.encipher.Reads as tiny-encipher
@@ -238,6 +269,53 @@ columns-xor-determined κs a z w e f p q = one p q
 pub columns-double-determined : (κs : _) (a : _) (z w : _) (e f : _) → columns-double.Learnt κs a z e → columns-double.Learnt κs a w f → z ≡ w
 columns-double-determined κs a z w e f p q = one p q
 
+-- ---- Sixteen blocks on planes: `planes`
+
+pub planes-of-blocks-determined : (κs : _) (a : _) (z w : _) (e f : _) → planes-of-blocks.Learnt κs a z e → planes-of-blocks.Learnt κs a w f → z ≡ w
+planes-of-blocks-determined κs a z w e f p q = one (p .1) (q .1)
+
+pub planes-to-blocks-determined : (κs : _) (a : _) (z w : _) (e f : _) → planes-to-blocks.Learnt κs a z e → planes-to-blocks.Learnt κs a w f → z ≡ w
+planes-to-blocks-determined κs a z w e f p q = one (p .1) (q .1)
+
+pub planes-copies-determined : (κs : _) (a : _) (z w : _) (e f : _) → planes-copies.Learnt κs a z e → planes-copies.Learnt κs a w f → z ≡ w
+planes-copies-determined κs a z w e f p q = one (p .1) (q .1)
+
+-- ---- The S-box as a circuit: `circuit`. Of the whole, the 64 bytes that stand in its lanes
+
+pub circuit-sums-determined : (κs : _) (a : _) (z w : _) (e f : _) → circuit-sums.Learnt κs a z e → circuit-sums.Learnt κs a w f → z ≡ w
+circuit-sums-determined κs a z w e f p q = one p q
+
+pub circuit-norm-determined : (κs : _) (a : _) (z w : _) (e f : _) → circuit-norm.Learnt κs a z e → circuit-norm.Learnt κs a w f → z ≡ w
+circuit-norm-determined κs a z w e f p q = one p q
+
+pub circuit-inverse16-determined : (κs : _) (a : _) (z w : _) (e f : _) → circuit-inverse16.Learnt κs a z e → circuit-inverse16.Learnt κs a w f → z ≡ w
+circuit-inverse16-determined κs a z w e f p q = one p q
+
+pub circuit-products-determined : (κs : _) (a : _) (z w : _) (e f : _) → circuit-products.Learnt κs a z e → circuit-products.Learnt κs a w f → z ≡ w
+circuit-products-determined κs a z w e f p q = one p q
+
+pub circuit-outputs-determined : (κs : _) (a : _) (z w : _) (e f : _) → circuit-outputs.Learnt κs a z e → circuit-outputs.Learnt κs a w f → z ≡ w
+circuit-outputs-determined κs a z w e f p q = one p q
+
+pub circuit-circuit-determined : (κs : _) (a : _) (z w : _) (e f : _) → circuit-circuit.Learnt κs a z e → circuit-circuit.Learnt κs a w f → tab 64 (lane z) ≡ tab 64 (lane w)
+circuit-circuit-determined κs a z w e f p q = one p q
+
+-- ---- Rows on planes: `rows`
+
+pub rows-turned-determined : (κs : _) (a : _) (z w : _) (e f : _) → rows-turned.Learnt κs a z e → rows-turned.Learnt κs a w f → z ≡ w
+rows-turned-determined κs a z w e f p q = one p q
+
+pub rows-mixed-determined : (κs : _) (a : _) (z w : _) (e f : _) → rows-mixed.Learnt κs a z e → rows-mixed.Learnt κs a w f → z ≡ w
+rows-mixed-determined κs a z w e f p q = one p q
+
+-- ---- Rounds of sixteen blocks: `sixteen`. The blocks that stand in the sixteen places
+
+pub sixteen-round-determined : (κs : _) (a : _) (z w : _) (e f : _) → sixteen-round.Learnt κs a z e → sixteen-round.Learnt κs a w f → map (planeBlock z) (upTo 16) ≡ map (planeBlock w) (upTo 16)
+sixteen-round-determined κs a z w e f p q = one p q
+
+pub sixteen-rounds4-determined : (κs : _) (a : _) (z w : _) (e f : _) → sixteen-rounds4.Learnt κs a z e → sixteen-rounds4.Learnt κs a w f → map (planeBlock z) (upTo 16) ≡ map (planeBlock w) (upTo 16)
+sixteen-rounds4-determined κs a z w e f p q = one p q
+
 -- ---- SubBytes: `sub_bytes`
 
 pub sub-bytes-sub-bytes-determined : (κs : _) (a : _) (z w : _) (e f : _)
@@ -295,14 +373,43 @@ tbc-e-determined κs a z w e f p q = one p q
 pub tbc-e-running-determined : (κs : _) (a : _) (z w : _) (e f : _) → tbc-e-running.Learnt κs a z e → tbc-e-running.Learnt κs a w f → z ≡ w
 tbc-e-running-determined κs a z w e f p q = one p q
 
-pub tbc-e-full-determined : (κs : _) (a : _) (z w : _) (e f : _) → tbc-e-full.Learnt κs a z e → tbc-e-full.Learnt κs a w f → z ≡ w
-tbc-e-full-determined κs a z w e f p q = one p q
-
-pub tbc-e-short-determined : (κs : _) (a : _) (z w : _) (e f : _) → tbc-e-short.Learnt κs a z e → tbc-e-short.Learnt κs a w f → z ≡ w
-tbc-e-short-determined κs a z w e f p q = one p q
-
 pub tbc-next-power-determined : (κs : _) (a : _) (z w : _) (e f : _) → tbc-next-power.Learnt κs a z e → tbc-next-power.Learnt κs a w f → z ≡ w
 tbc-next-power-determined κs a z w e f p q = one p q
+
+pub tbc-base-blocks-determined : (κs : _) (a : _) (z w : _) (e f : _) → tbc-base-blocks.Learnt κs a z e → tbc-base-blocks.Learnt κs a w f → z ≡ w
+tbc-base-blocks-determined κs a z w e f p q = one p q
+
+pub tbc-running-mask-determined : (κs : _) (a : _) (z w : _) (e f : _) → tbc-running-mask.Learnt κs a z e → tbc-running-mask.Learnt κs a w f → z ≡ w
+tbc-running-mask-determined κs a z w e f p q = one p q
+
+pub tbc-keys-adding-determined : (κs : _) (a : _) (z w : _) (e f : _) → tbc-keys-adding.Learnt κs a z e → tbc-keys-adding.Learnt κs a w f → z ≡ w
+tbc-keys-adding-determined κs a z w e f p q = one p q
+
+-- ---- Groups of blocks: `groups`
+
+pub groups-xor-determined : (κs : _) (a : _) (z w : _) (e f : _) → groups-xor.Learnt κs a z e → groups-xor.Learnt κs a w f → z ≡ w
+groups-xor-determined κs a z w e f p q = one p q
+
+pub groups-load-determined : (κs : _) (a : _) (z w : _) (e f : _) → groups-load.Learnt κs a z e → groups-load.Learnt κs a w f → z ≡ w
+groups-load-determined κs a z w e f p q = one p q
+
+pub groups-sum-determined : (κs : _) (a : _) (z w : _) (e f : _) → groups-sum.Learnt κs a z e → groups-sum.Learnt κs a w f → z ≡ w
+groups-sum-determined κs a z w e f p q = one p q
+
+pub groups-masks-determined : (κs : _) (a : _) (z w : _) (e f : _) → groups-masks.Learnt κs a z e → groups-masks.Learnt κs a w f → z ≡ w
+groups-masks-determined κs a z w e f p q = one p q
+
+pub groups-under0-determined : (κs : _) (a : _) (z w : _) (e f : _) → groups-under0.Learnt κs a z e → groups-under0.Learnt κs a w f → z ≡ w
+groups-under0-determined κs a z w e f p q = one p q
+
+pub groups-under1-determined : (κs : _) (a : _) (z w : _) (e f : _) → groups-under1.Learnt κs a z e → groups-under1.Learnt κs a w f → z ≡ w
+groups-under1-determined κs a z w e f p q = one p q
+
+pub groups-under2-determined : (κs : _) (a : _) (z w : _) (e f : _) → groups-under2.Learnt κs a z e → groups-under2.Learnt κs a w f → z ≡ w
+groups-under2-determined κs a z w e f p q = one p q
+
+pub groups-keys-determined : (κs : _) (a : _) (z w : _) (e f : _) → groups-keys.Learnt κs a z e → groups-keys.Learnt κs a w f → z ≡ w
+groups-keys-determined κs a z w e f p q = one (p .1) (q .1)
 
 -- ---- What a door answers by: `answer`
 
@@ -326,10 +433,20 @@ builder-put-determined κs a z w e f p q = (one (p .0) (q .0), one (p .1) (q .1)
 pub builder-log-header-determined : (κs : _) (a : _) (z w : _) (e f : _) → builder-log-header.Learnt κs a z e → builder-log-header.Learnt κs a w f → (z ≡ w) × (now (e .1 .1 .1 .1 .0) ≡ now (f .1 .1 .1 .1 .0))
 builder-log-header-determined κs a z w e f p q = one-outcome z w (now (e .1 .1 .1 .1 .0)) (now (f .1 .1 .1 .1 .0)) _ p q
 
--- ---- The hash and the prf: `hash`
+-- ---- The strings of a tweak: `strings`
 
-pub hash-string-hash-determined : (κs : _) (a : _) (z w : _) (e f : _) → hash-string-hash.Learnt κs a z e → hash-string-hash.Learnt κs a w f → z ≡ w
-hash-string-hash-determined κs a z w e f p q = one p q
+pub strings-nothing-determined : (κs : _) (a : _) (z w : _) (e f : _) → strings-nothing.Learnt κs a z e → strings-nothing.Learnt κs a w f → z ≡ w
+strings-nothing-determined κs a z w e f p q = one p q
+
+-- what is hashed so far; which of its blocks wait is left open
+pub strings-add-string-determined : (κs : _) (a : _) (z w : _) (e f : _) → strings-add-string.Learnt κs a z e → strings-add-string.Learnt κs a w f
+    → soFar (blocks (a .0)) (now (e .1 .1 .1 .1 .1 .0)) z ≡ soFar (blocks (a .0)) (now (f .1 .1 .1 .1 .1 .0)) w
+strings-add-string-determined κs a z w e f p q = one (p .1) (q .1)
+
+pub strings-hashed-determined : (κs : _) (a : _) (z w : _) (e f : _) → strings-hashed.Learnt κs a z e → strings-hashed.Learnt κs a w f → z ≡ w
+strings-hashed-determined κs a z w e f p q = one p q
+
+-- ---- The hash and the prf: `hash`
 
 pub hash-delta-determined : (κs : _) (a : _) (z w : _) (e f : _) → hash-delta.Learnt κs a z e → hash-delta.Learnt κs a w f → z ≡ w
 hash-delta-determined κs a z w e f p q = one p q
@@ -344,6 +461,17 @@ tiny-encipher-determined κs a z w e f p q = one p q
 
 pub tiny-decipher-determined : (κs : _) (a : _) (z w : _) (e f : _) → tiny-decipher.Learnt κs a z e → tiny-decipher.Learnt κs a w f → now (e .1 .1 .0) ≡ now (f .1 .1 .0)
 tiny-decipher-determined κs a z w e f p q = one p q
+
+-- ---- AEZ-core's passes: `pass`
+
+pub pass-added-determined : (κs : _) (a : _) (z w : _) (e f : _) → pass-added.Learnt κs a z e → pass-added.Learnt κs a w f → z ≡ w
+pass-added-determined κs a z w e f p q = one p q
+
+pub pass-put-two-determined : (κs : _) (a : _) (z w : _) (e f : _) → pass-put-two.Learnt κs a z e → pass-put-two.Learnt κs a w f → now (e .0) ≡ now (f .0)
+pass-put-two-determined κs a z w e f p q = one p q
+
+pub pass-all-pairs-determined : (κs : _) (a : _) (z w : _) (e f : _) → pass-all-pairs.Learnt κs a z e → pass-all-pairs.Learnt κs a w f → (z ≡ w) × (now (e .1 .1 .1 .1 .1 .0) ≡ now (f .1 .1 .1 .1 .1 .0))
+pass-all-pairs-determined κs a z w e f p q = (one (p .0) (q .0), one (p .1) (q .1))
 
 -- ---- AEZ-core: `wide`
 

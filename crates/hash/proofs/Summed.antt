@@ -61,11 +61,11 @@ module _ (f : BlockFunction) where
       stop p e = ap (plus total i) (entry-reads (i - 1) left at h Bad p e)
 
       -- nothing after the last entry
-      pub good : left ≤ 0 → at ≡ length h → length total ≡ 16 → summed h total at i left ≡ total
+      pub good : left ≤ 0 → at ≡ length h → length total ≤ 16 → summed h total at i left ≡ total
       good p e l =
           ap (plus total i) (end-reads (i - 1) left at h p e)
           ∙ ap (λ (u : Bytes). total ⊕ u) (hash-none f i)
-          ∙ ⊕-zeros 16 total (omega arith)
+          ∙ ⊕-zeros 16 total l
 
       -- something after it
       pub over : left ≤ 0 → at < length h → summed h total at i left ≡ zeros

@@ -1,14 +1,15 @@
 -- Sums and joins of strings that are counted from 1.
-use mathlib.Core.List.{_++_, append-assoc}
+use mathlib.Core.List.{_++_, append-assoc, append-nil}
 use mathlib.Core.Path.{_≡_, refl, ap, ap₂, sym, _∙_}
 use Prim.Native.Nat.{ℕ, zero, suc, _+_, _-_, _*_, _≤_}
 use native.Mathlib.Decide.{decLe}
-use native.Mathlib.Nat.{mul-suc}
+use native.Mathlib.Nat.{add-zero, add-suc, mul-suc}
 use native.Mathlib.Numerals.{add-one}
 use native.Mathlib.Omega.{arith}
 use lib.ListN.{length, take, drop, length-append}
 use lib.Seq.{take-at, drop-at}
 use Rattle.paper.specs.Strings.{Bytes, Digits, Block, _⊕_, sum, join}
+use Rattle.laws.proofs.Strings.{⊕-assoc, ⊕-zeros, ⊕-short}
 use Rattle.laws.proofs.Digits.{⊕-digits, append-digits, zero-digits, as-digits}
 
 -- P holds of each number from 1 to m
@@ -91,3 +92,27 @@ sum-more (suc j) f h =
     let next : suc j + 1 - 1 ≡ suc j = omega arith in
     let this : j ≡ suc j - 1 = omega arith in
     ap (λ (n : ℕ). sum n f) next ∙ ap (λ (n : ℕ). sum n f ⊕ f (suc j)) this
+
+-- a join of the first a strings and of n more
+pub join-plus : (a n : ℕ) (f : ℕ → Bytes) → join (a + n) f ≡ join a f ++ join n (λ i. f (a + i))
+unfolding join
+join-plus a zero f = ap (λ (k : ℕ). join k f) (add-zero a) ∙ sym (append-nil (join a f))
+join-plus a (suc n) f =
+    ap (λ (k : ℕ). join k f) (add-suc a n)
+    ∙ ap₂ (λ (l : Bytes) (k : ℕ). l ++ f k) (join-plus a n f) (sym (add-suc a n))
+    ∙ append-assoc (join a f) (join n (λ i. f (a + i))) (f (a + suc n))
+
+-- a sum is no longer than the block of zeros that it begins with
+sum-short : (n : ℕ) (f : ℕ → Bytes) → length (sum n f) ≤ 16
+unfolding sum
+sum-short zero f = omega arith
+sum-short (suc n) f = omega (arith, ⊕-short (sum n f) (f (suc n)), sum-short n f)
+
+-- a sum of the first a terms and of n more
+pub sum-plus : (a n : ℕ) (f : ℕ → Bytes) → sum (a + n) f ≡ sum a f ⊕ sum n (λ i. f (a + i))
+unfolding sum
+sum-plus a zero f = ap (λ (k : ℕ). sum k f) (add-zero a) ∙ sym (⊕-zeros 16 (sum a f) (sum-short a f))
+sum-plus a (suc n) f =
+    ap (λ (k : ℕ). sum k f) (add-suc a n)
+    ∙ ap₂ (λ (l : Bytes) (k : ℕ). l ⊕ f k) (sum-plus a n f) (sym (add-suc a n))
+    ∙ ⊕-assoc (sum a f) (sum n (λ i. f (a + i))) (f (a + suc n))

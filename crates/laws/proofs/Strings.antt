@@ -46,6 +46,13 @@ unfolding _⊕_ zip
 ⊕-length (x ∷ X) [] h = absurd (not-suc-le-zero h)
 ⊕-length (x ∷ X) (y ∷ Y) h = ap suc (⊕-length X Y (le-of-suc-le-suc h))
 
+-- an xor is no longer than its first string
+pub ⊕-short : (X Y : List ℕ) → length (X ⊕ Y) ≤ length X
+unfolding _⊕_ zip
+⊕-short [] Y = omega arith
+⊕-short (x ∷ X) [] = omega arith
+⊕-short (x ∷ X) (y ∷ Y) = omega (arith, ⊕-short X Y)
+
 -- zeros in front of one number change that entry alone
 pub ⊕-last : (k n : ℕ) (X : List ℕ) → length X ≡ suc k → X ⊕ (replicate k 0 ++ n ∷ []) ≡ set X k (bitXor (getD X k 0) n)
 unfolding _⊕_ zip

@@ -9,7 +9,7 @@ use Rattle.paper.specs.Section7.{twoTo, _·_}
 use Rattle.paper.specs.Figure6.{Row, minus1, row, Key, Defined, E}
 use Rattle.paper.specs.Document01.{aᵢ, aaᵢ, hash}
 use Rattle.columns.specs.Columns.{columnsOf}
-use Rattle.tbc.specs.Meaning.{base, pair, pairOf, named, rowOf, Plain, Running, Hashing}
+use Rattle.tbc.specs.Meaning.{base, pair, pairOf, named, rowOf, Plain, Running}
 use Rattle.tbc.specs.declared.Base.{Base}
 use Rattle.tbc.specs.declared.Pair.{Pair}
 use Rattle.tbc.proofs.Masks.{row-of}
@@ -26,10 +26,6 @@ pub running : (p : Pair) (i j : ℕ) → p ≡ pair false i j → (k : Base) (po
 running p i j e k power g h c =
     subst⁻¹ (λ (q : Pair). Running k q power) e
     (record { plus = refl; counted = g; from1 = h; carried = c })
-
--- the number j of a row from 3 on, with the row's multiple of J
-pub hashing : (p : Pair) (i j : ℕ) → p ≡ pair false i j → (k : Base) (mask : List ℕ) → 3 ≤ i → mask ≡ columnsOf (((i - 2) * 8) · base k .J) → Hashing k p mask
-hashing p i j e k mask g m = subst⁻¹ (λ (q : Pair). Hashing k q mask) e (record { plus = refl; from3 = g; masked = m })
 
 -- the pair of two indices stands for them, so that `table` is 01's
 pub first-index : (r : Row) (i : ℕ) → rowOf (pairOf r i) ≡ r
@@ -66,8 +62,3 @@ counted-defined (suc (suc (suc i))) j g h = tt
 pub running-defined : (k : Base) (p : Pair) (power : List ℕ) → Running k p power → Defined (rowOf p) (p .2)
 running-defined k p power h =
     subst⁻¹ (λ (r : Row). Defined r (p .2)) (row-of p (p .1) (h .plus) refl) (counted-defined (p .1) (p .2) (h .counted) (h .from1))
-
-pub hashing-defined : (k : Base) (p : Pair) (mask : List ℕ) → Hashing k p mask → Defined (rowOf p) (p .2)
-hashing-defined k p mask h =
-    let from3 : p .1 ≡ suc (suc (suc (p .1 - 3))) = omega (arith, h .from3) in
-    subst⁻¹ (λ (r : Row). Defined r (p .2)) (row-of p _ (h .plus) from3) tt

@@ -4,6 +4,7 @@ use mathlib.Core.List.{List, [], _∷_, map}
 use mathlib.Core.Path.{_≡_}
 use Prim.Native.Nat.{ℕ, zero, suc, _-_, _*_, _/_, _%_, _≤_}
 use lib.Dec.{eqb}
+use lib.ListN.{replicate}
 use Rattle.paper.specs.Strings.{if_then_else_}
 use Rattle.paper.specs.Section7.{double, twoTo, _·_}
 use Rattle.paper.specs.Figure6 as figure6
@@ -36,6 +37,10 @@ pub record Kept (k : Key) : Type 0 where
 -- m is 0·J to 7·J, taken out of the record and lent beside its base
 abbrev pub OfJ : Base → List ℕ → Type 0
 OfJ k m = m ≡ multiples (base k .J)
+
+-- the columns of k0 with a mask for the first key, which is zero there
+abbrev pub masked0 : Base → List ℕ → List (List ℕ)
+masked0 k mask = mask ∷ k .i ∷ k .j ∷ k .l ∷ replicate 4 0 ∷ []
 
 -- a pair of indices, (-1, second) being minus with 1
 abbrev pub pair : Bool → ℕ → ℕ → Pair
@@ -75,9 +80,3 @@ pub record Running (k : Base) (p : Pair) (power : List ℕ) : Type 0 where
   pub counted : 1 ≤ p .1
   pub from1 : 1 ≤ p .2
   pub carried : power ≡ columnsOf (twoTo ((p .2 - 1) / 8) (base k .L))
-
--- the pair of a row from 3 on, and the multiple of J that tells that row from the others
-pub record Hashing (k : Base) (p : Pair) (mask : List ℕ) : Type 0 where
-  pub plus : p .0 ≡ false
-  pub from3 : 3 ≤ p .1
-  pub masked : mask ≡ columnsOf (((p .1 - 2) * 8) · base k .J)

@@ -1,16 +1,16 @@
 // The block function E of Figure 6 of the AEZ paper: the key record, the table of index pairs, and E itself. A block goes in and comes out as
 // 16 bytes; masks, multiples and keys are columns (`columns`).
 use columns::Columns;
-ghost use mathlib.Core.List.{_∷_, map};
+ghost use mathlib.Core.List.{[], _∷_, map};
 ghost use mathlib.Core.Path.{_≡_};
 ghost use Prim.Native.Nat.{_+_, _-_, _*_, _%_, _<_, _≤_};
 ghost use lib.ListN.{length, drop};
 ghost use Rattle.paper.specs.Strings.{_⊕_};
 ghost use Rattle.paper.specs.Section7.{_·_};
-ghost use Rattle.paper.specs.Figure6.{keyOf, k0, k1, k2, K10, E};
+ghost use Rattle.paper.specs.Figure6.{keyOf, k1, k2, K10, E};
 ghost use Rattle.columns.specs.Columns.{columnsOf, blockOf};
 ghost use Rattle.multiples.specs.Eight.{multiples, fourAt};
-ghost use Rattle.tbc.specs.Meaning.{blocks, base, baseOf, Kept, OfJ, pair, indexPairs, rowOf, nextPower, Plain, Running, Hashing};
+ghost use Rattle.tbc.specs.Meaning.{blocks, base, baseOf, Kept, OfJ, masked0, pair, indexPairs, rowOf, nextPower, Plain, Running};
 
 // The key: the blocks I, J and L, and the multiples of them that are kept, as columns. Only `key_of` makes one, and nothing changes it: each
 // kept block is its multiple from then on (`Meaning.Kept`). 2·I, 2·J and the multiples of L are kept because request E7 names them; what
@@ -115,6 +115,16 @@ impl Key {
 }
 
 impl Base {
+    // I, J and L.
+    pub fn blocks(self) -> [Columns; 3]
+        ensures { λ r. ⌜ r ≡ columnsOf (base self .I) ∷ columnsOf (base self .J) ∷ columnsOf (base self .L) ∷ [] ⌝ }
+    {
+        let i = self.i;
+        let j = self.j;
+        let l = self.l;
+        [i, j, l]
+    }
+
     // L, which is the power of L for the numbers from 1 to 8.
     pub fn power(self) -> Columns
         ensures { λ r. ⌜ r ≡ columnsOf (base self .L) ⌝ }
@@ -203,7 +213,7 @@ impl Pair {
 
 // Lines 402 and 403: the key lists, with a mask for the first key. That key is zero, and it is added where the mask is.
 fn keys0(k: Base, mask: Columns) -> [Columns; 5]
-    ensures { λ r. ⌜ map blockOf r ≡ blockOf mask ∷ drop 1 (k0 (base k)) ⌝ }
+    ensures { λ r. ⌜ r ≡ masked0 k mask ⌝ }
 {
     let z = [0u32; 4];
     let i = k.i;
@@ -240,6 +250,17 @@ fn keys10(k: Base, mask: Columns) -> [Columns; 11]
     [mask, i, l, j, i, l, j, i, l, j, i]
 }
 
+// The keys of AES4 under which a block goes as E in row 0 takes its sum with `added`: line 405, with `added` in the mask. A caller that has
+// many blocks for one pair makes them once.
+pub fn keys_adding(k: Base, m: &[u32; 32], p: Pair, added: Columns) -> [Columns; 5]
+    requires { ⌜ (p .2 ≤ 7) × OfJ k (now m) ⌝ }
+    ensures { λ r. ⌜ r ≡ masked0 k (columnsOf (blockOf added ⊕ p .2 · base k .J)) ⌝ }
+{
+    let of_j = multiples::multiple(m, p.2);
+    let mask = columns::xor(added, of_j);
+    keys0(k, mask)
+}
+
 // The power of L for the second index that follows b, from the power for b: it doubles after each eighth.
 pub fn next_power(b: u32, power: Columns) -> Columns
     ensures { λ r. ⌜ r ≡ nextPower b power ⌝ }
@@ -251,7 +272,7 @@ pub fn next_power(b: u32, power: Columns) -> Columns
 }
 
 // Lines 406 and 408: (b mod 8)·J ⊕ power, the multiple of J being read.
-fn running_mask(m: &[u32; 32], b: u32, power: Columns) -> Columns
+pub fn running_mask(m: &[u32; 32], b: u32, power: Columns) -> Columns
     ensures { λ r. ⌜ r ≡ columnsOf (blockOf (fourAt (now (m .entry)) (4 * (b % 8))) ⊕ blockOf power) ⌝ }
 {
     let low = multiples::multiple(m, b);
@@ -284,32 +305,5 @@ pub fn e_running(k: Base, m: &[u32; 32], p: Pair, power: Columns, x: [u8; 16]) -
         return aes::aes4(keys, x);
     }
     let keys = keys2(k, mask);
-    aes::aes4(keys, x)
-}
-
-// E of a full block in a row from 3 on, whose numbers count up: line 408. mask is the row's multiple of J.
-pub fn e_full(
-    k: Base,
-    m: &[u32; 32],
-    p: Pair,
-    mask: Columns,
-    power: Columns,
-    x: [u8; 16],
-) -> [u8; 16]
-    requires { ⌜ (Hashing k p mask) × (Running k p power) × OfJ k (now m) ⌝ }
-    ensures { λ r. ⌜ r ≡ E (base k) (rowOf p) (p .2) x ⌝ }
-{
-    let running = running_mask(m, p.2, power);
-    let full = columns::xor(running, mask);
-    let keys = keys0(k, full);
-    aes::aes4(keys, x)
-}
-
-// E of a short block in a row from 3 on: line 409.
-pub fn e_short(k: Base, p: Pair, mask: Columns, x: [u8; 16]) -> [u8; 16]
-    requires { ⌜ (Hashing k p mask) × (p .2 ≡ 0) ⌝ }
-    ensures { λ r. ⌜ r ≡ E (base k) (rowOf p) (p .2) x ⌝ }
-{
-    let keys = keys0(k, mask);
     aes::aes4(keys, x)
 }

@@ -1,10 +1,9 @@
 -- What the two passes make of the pairs is what Figure 5 says: W_i X_i and the sum of the X_i, C_i C′_i and the sum of the Y_i.
 use mathlib.Core.List.{_++_}
 use mathlib.Core.Path.{_≡_, ap, ap₂, _∙_}
-use Prim.Native.Nat.{ℕ, _-_, _*_, _≤_}
+use Prim.Native.Nat.{ℕ, _*_, _≤_}
 use native.Mathlib.Omega.{arith}
-use lib.ListN.{length, take, drop, length-append, length-drop}
-use lib.Seq.{length-take-le, take-take, drop-at, drop-drop, take-add}
+use lib.ListN.{length, length-append}
 use Rattle.paper.specs.Strings.{Bytes, Digits, Block, _⊕_, sum, join}
 use Rattle.paper.specs.Figure6.{row, BlockFunction}
 use Rattle.paper.specs.Figure5.{pairs, Mᵢ, M′ᵢ, Wᵢ, Xᵢ, S′ᵢ, Yᵢ, Zᵢ, C′ᵢ, Cᵢ, S as Sall}
@@ -13,19 +12,8 @@ use Rattle.laws.proofs.Digits.{append-digits}
 use Rattle.laws.proofs.Joins.{UpTo, sum-ext, join-ext, join-digits}
 use Rattle.laws.proofs.CoreParts.{cut, pairs-of}
 use Rattle.laws.proofs.CoreBlocks.{Wᵢ-block, Xᵢ-block}
-use Rattle.wide.specs.Pairs.{firstW, firstX, firstPair, secondY, secondZ, secondC′, secondC, secondPair, pairAt, pairSum}
-
--- the two blocks of a pair
-left-is : (N : Bytes) (i : ℕ) → take 16 (pairAt N i) ≡ Mᵢ N i
-left-is N i = take-take 16 32 (drop (32 * (i - 1)) N) (omega arith)
-
-right-is : (N : Bytes) (i : ℕ) → 1 ≤ i → 32 * i ≤ length N → take 16 (drop 16 (pairAt N i)) ≡ M′ᵢ N i
-right-is N i a h =
-    let l : Bytes = drop (32 * (i - 1)) N in
-    ap (λ (k : Bytes). take 16 (drop 16 k)) (take-add 16 16 l)
-    ∙ ap (take 16) (drop-at (take 16 l) (take 16 (drop 16 l)) 16 (length-take-le 16 l (simp length-drop (omega arith))))
-    ∙ take-take 16 16 (drop 16 l) (omega arith)
-    ∙ ap (take 16) (drop-drop 16 (32 * (i - 1)) N)
+use Rattle.pass.specs.Pairs.{firstW, firstX, firstPair, secondY, secondZ, secondC′, secondC, secondPair, pairAt, pairSum}
+use Rattle.pass.proofs.Halves.{left-is, right-is}
 
 module _
     (E : BlockFunction) (E-block : GivesBlocks E)

@@ -12,7 +12,7 @@ use Rattle.laws.proofs.BlockFunction.{GivesBlocks}
 use Rattle.laws.proofs.CoreParts.{cut}
 use Rattle.laws.proofs.CoreBlocks.{uv-bytes}
 use Rattle.laws.proofs.CoreResult.{pairs-long, split}
-use Rattle.wide.specs.Pairs.{firstX, firstPair, secondY, secondPair, pairAt, pairSum, paired}
+use Rattle.pass.specs.Pairs.{firstX, firstPair, secondY, secondPair, pairAt, pairSum, paired}
 use Rattle.wide.specs.Uv.{withUv, uMasked, vMasked}
 use Rattle.wide.specs.Ends.{sxOf, syOf, cxOf, cyOf}
 use Rattle.wide.proofs.Parts.{second, third, put-second, put-third}

@@ -1,13 +1,11 @@
--- Index pairs that a call returned: x and y of the two ways are at most 7, and E at such a pair is E at its indices.
-use mathlib.Core.Bool.{false}
+-- x and y of the two ways are at most 7, and E at such a pair is E at its indices.
 use mathlib.Core.Path.{_≡_, ap, subst⁻¹, _∙_}
-use Prim.Native.Nat.{ℕ, _≤_}
+use Prim.Native.Nat.{_≤_}
 use native.Mathlib.Omega.{arith}
 use Rattle.paper.specs.Strings.{Bytes, _⊕_}
-use Rattle.paper.specs.Figure6.{Key, row, E}
-use Rattle.tbc.specs.Meaning.{pair, rowOf, Plain}
+use Rattle.paper.specs.Figure6.{Key, E}
+use Rattle.tbc.specs.Meaning.{rowOf, Plain}
 use Rattle.tbc.specs.declared.Pair.{Pair}
-use Rattle.tbc.proofs.Pairs.{at-pair}
 use Rattle.wide.specs.Ways.{firstOf, secondOf, endPairs}
 use Rattle.wide.specs.declared.EndPairs.{EndPairs}
 use Rattle.wide.specs.declared.Way.{Way}
@@ -28,7 +26,3 @@ module _ (way : Way) (i : EndPairs) (e : i ≡ endPairs way) (p : EndPairs → P
 
   pub added-of : (K : Key) (r a X : Bytes) → r ≡ a ⊕ E K (rowOf (p i)) (p i .2) X → r ≡ a ⊕ E K (rowOf (p (endPairs way))) (p (endPairs way) .2) X
   added-of K r a X f = f ∙ ap (λ (i : EndPairs). a ⊕ E K (rowOf (p i)) (p i .2) X) e
-
--- a pair of a row whose second index counts
-pub at-row : (p : Pair) (i j : ℕ) → p ≡ pair false i j → (K : Key) (r X : Bytes) → r ≡ E K (rowOf p) (p .2) X → r ≡ E K (row i) j X
-at-row p i j e K r X f = f ∙ at-pair p false i j e K X

@@ -1,9 +1,7 @@
-mod Stores
 mod Steps
 mod Indices
 mod UvParts
 mod Masks
-mod Passes
 mod Parts
 mod CorePairs
 mod CoreUv

@@ -1,4 +1,3 @@
-pub mod Pairs
 pub mod Uv
 pub mod Ways
 pub mod Ends

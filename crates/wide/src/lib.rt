@@ -1,18 +1,14 @@
 // AEZ-core, in place: enciphering and deciphering a string of 32 bytes or more where it stands.
 // Lines 220 to 240 of Figure 5 of the AEZ paper; deciphering exchanges (0, 1) with (0, 2) and (-1, 1) with (-1, 2).
 // m is everywhere 0·J to 7·J, taken out of the key once.
-use columns::Columns;
 ghost use mathlib.Core.List.{_++_};
 ghost use mathlib.Core.Path.{_≡_};
-ghost use Prim.Native.Nat.{_-_, _/_, _<_, _≤_};
+ghost use Prim.Native.Nat.{_<_, _≤_};
 ghost use lib.ListN.{length};
 ghost use Rattle.paper.specs.Strings.{_⊕_};
-ghost use Rattle.paper.specs.Section7.{twoTo};
-ghost use Rattle.paper.specs.Figure6.{row, E};
+ghost use Rattle.paper.specs.Figure6.{E};
 ghost use Rattle.paper.specs.Figure5.{core};
-ghost use Rattle.columns.specs.Columns.{columnsOf};
-ghost use Rattle.tbc.specs.Meaning.{blocks, base, Kept, OfJ, rowOf, Plain};
-ghost use Rattle.wide.specs.Pairs.{firstX, firstPair, secondY, secondPair, summand, newPair, pairSum, paired};
+ghost use Rattle.tbc.specs.Meaning.{blocks, base, Kept, OfJ};
 ghost use Rattle.wide.specs.Ways.{firstOf, secondOf, endPairs};
 ghost use Rattle.wide.specs.Ends.{sxOf, syOf, cxOf, cyOf};
 ghost use Rattle.wide.specs.Uv.{withUv, uMasked, vMasked};
@@ -50,131 +46,11 @@ fn pairs_of(way: Way) -> EndPairs
     }
 }
 
-// The two passes over the pairs of blocks: line 226, and lines 232 and 233.
-enum Pass {
-    First,
-    Second,
-}
-
 // S_x, S_y and S.
 struct Sums {
     sx: [u8; 16],
     sy: [u8; 16],
     s: [u8; 16],
-}
-
-// a ⊕ E(x) at the pair p.
-fn added(k: tbc::Base, m: &[u32; 32], p: tbc::Pair, a: [u8; 16], x: [u8; 16]) -> [u8; 16]
-    requires { ⌜ (Plain (rowOf p) (p .2)) × OfJ k (now m) ⌝ }
-    ensures { λ r. ⌜ r ≡ a ⊕ E (base k) (rowOf p) (p .2) x ⌝ }
-{
-    let e = tbc::e(k, m, p, x);
-    block::xor(a, e)
-}
-
-// a ⊕ E(x) at the pair (1, b). power is the power of L for b.
-fn added_at(
-    k: tbc::Base,
-    m: &[u32; 32],
-    b: u32,
-    power: Columns,
-    a: [u8; 16],
-    x: [u8; 16],
-) -> [u8; 16]
-    requires { ⌜ (1 ≤ b) × (power ≡ columnsOf (twoTo ((b - 1) / 8) (base k .L))) × OfJ k (now m) ⌝ }
-    ensures { λ r. ⌜ r ≡ a ⊕ E (base k) (row 1) b x ⌝ }
-{
-    let p = tbc::Pair::A_I.at(b);
-    let e = tbc::e_running(k, m, p, power, x);
-    block::xor(a, e)
-}
-
-// Two blocks put into a part of 32 bytes.
-fn put_two(part: &mut [u8], a: [u8; 16], b: [u8; 16])
-    requires { ⌜ length (now part) ≡ 32 ⌝ }
-    ensures { λ _. ⌜ now (part .exit) ≡ a ++ b ⌝ }
-{
-    block::store(part, 0, a);
-    block::store(part, 16, b);
-}
-
-// Line 226: a pair M_i M′_i becomes W_i X_i, and X_i is returned. power is the power of L for the number b of the pair.
-fn first_pair(k: tbc::Base, m: &[u32; 32], b: u32, power: Columns, part: &mut [u8]) -> [u8; 16]
-    requires { ⌜ (1 ≤ b) × (length (now part) ≡ 32) × (power ≡ columnsOf (twoTo ((b - 1) / 8) (base k .L))) × OfJ k (now m) ⌝ }
-    ensures { λ r. ⌜ (r ≡ firstX (E (base k)) b (now (part .entry))) × (now (part .exit) ≡ firstPair (E (base k)) b (now (part .entry))) ⌝ }
-{
-    let left = block::load(part, 0);
-    let right = block::load(part, 16);
-    let w = added_at(k, m, b, power, left, right);
-    let x = added(k, m, tbc::Pair::A, right, w);
-    put_two(part, w, x);
-    x
-}
-
-// Lines 232 and 233: a pair W_i X_i becomes C_i C′_i, and Y_i is returned.
-fn second_pair(
-    k: tbc::Base,
-    m: &[u32; 32],
-    b: u32,
-    power: Columns,
-    sum: [u8; 16],
-    part: &mut [u8],
-) -> [u8; 16]
-    requires { ⌜ (1 ≤ b) × (length (now part) ≡ 32) × (power ≡ columnsOf (twoTo ((b - 1) / 8) (base k .L))) × OfJ k (now m) ⌝ }
-    ensures { λ r. ⌜ (r ≡ secondY (E (base k)) sum b (now (part .entry))) × (now (part .exit) ≡ secondPair (E (base k)) sum b (now (part .entry))) ⌝ }
-{
-    let p = tbc::Pair::AA_I.at(b);
-    let s = tbc::e_running(k, m, p, power, sum);
-    let left = block::load(part, 0);
-    let right = block::load(part, 16);
-    let y = block::xor(left, s);
-    let z = block::xor(right, s);
-    let second = added(k, m, tbc::Pair::A, y, z);
-    let first = added_at(k, m, b, power, z, second);
-    put_two(part, first, second);
-    y
-}
-
-// One pair of a pass; what it adds to the pass's sum is returned. sum is S, which the second pass reads.
-fn one_pair(
-    k: tbc::Base,
-    m: &[u32; 32],
-    b: u32,
-    power: Columns,
-    pass: Pass,
-    sum: [u8; 16],
-    part: &mut [u8],
-) -> [u8; 16]
-    requires { ⌜ (1 ≤ b) × (length (now part) ≡ 32) × (power ≡ columnsOf (twoTo ((b - 1) / 8) (base k .L))) × OfJ k (now m) ⌝ }
-    ensures { λ r. ⌜ (r ≡ summand (E (base k)) pass sum b (now (part .entry))) × (now (part .exit) ≡ newPair (E (base k)) pass sum b (now (part .entry))) ⌝ }
-{
-    match pass {
-        Pass::First => first_pair(k, m, b, power, part),
-        Pass::Second => second_pair(k, m, b, power, sum, part),
-    }
-}
-
-// A pass over every pair: the first makes W_1 X_1 .. W_m X_m of M_1 M′_1 .. M_m M′_m and returns the sum of the X_i, the second makes
-// C_1 C′_1 .. C_m C′_m of that, by the sum S, and returns the sum of the Y_i. The rest stays.
-fn all_pairs(k: tbc::Base, m: &[u32; 32], pass: Pass, sum: [u8; 16], s: &mut [u8]) -> [u8; 16]
-    requires { ⌜ (32 ≤ length (now s)) × (length (now s) ≤ 65536) × OfJ k (now m) ⌝ }
-    ensures { λ r. ⌜ (r ≡ pairSum (summand (E (base k)) pass sum) (now (s .entry))) × (now (s .exit) ≡ paired (newPair (E (base k)) pass sum) (now (s .entry))) ⌝ }
-{
-    let mut total = [0u8; 16];
-    let mut power = k.power();
-    let mut at: usize = 0;
-    let mut b: u32 = 1;
-    while 64 <= s.len() - at {
-        let end = at + 32;
-        let x = one_pair(k, m, b, power, pass, sum, &mut s[at..end]);
-        let more = block::xor(total, x);
-        total = more;
-        let next = tbc::next_power(b, power);
-        power = next;
-        at = end;
-        b += 1;
-    }
-    total
 }
 
 // Lines 227 to 229: a sum, and what u and v add to it. At 16 bytes v is empty, and its padding is added all the same.
@@ -188,12 +64,12 @@ fn with_uv(k: tbc::Base, m: &[u32; 32], total: [u8; 16], uv: &[u8]) -> [u8; 16]
     }
     if d <= 15 {
         let short = block::pad(uv);
-        return added(k, m, tbc::Pair::U, total, short);
+        return pass::added(k, m, tbc::Pair::U, total, short);
     }
     let u = block::load(uv, 0);
-    let more = added(k, m, tbc::Pair::U, total, u);
+    let more = pass::added(k, m, tbc::Pair::U, total, u);
     let v = block::pad(&uv[16..d]);
-    added(k, m, tbc::Pair::V, more, v)
+    pass::added(k, m, tbc::Pair::V, more, v)
 }
 
 // A part of at most 16 bytes, xored with the front of e.
@@ -244,8 +120,8 @@ fn middle(
     let i = pairs_of(way);
     let a = block::xor(mx, delta);
     let b = block::xor(a, total);
-    let sx = added(k, m, i.x, b, my);
-    let sy = added(k, m, i.xx, my, sx);
+    let sx = pass::added(k, m, i.x, b, my);
+    let sy = pass::added(k, m, i.xx, my, sx);
     let s = block::xor(sx, sy);
     Sums { sx, sy, s }
 }
@@ -266,11 +142,11 @@ fn put_last(
     let sx = sums.sx;
     let sy = sums.sy;
     let i = pairs_of(way);
-    let cy = added(k, m, i.yy, sx, sy);
+    let cy = pass::added(k, m, i.yy, sx, sy);
     let a = block::xor(sy, delta);
     let b = block::xor(a, total);
-    let cx = added(k, m, i.y, b, cy);
-    put_two(last, cx, cy);
+    let cx = pass::added(k, m, i.y, b, cy);
+    pass::put_two(last, cx, cy);
 }
 
 // Lines 220 to 240, in place: s becomes AEZ-core of it.
@@ -280,15 +156,16 @@ pub fn core_in_place(k: tbc::Key, delta: [u8; 16], way: Way, s: &mut [u8])
 {
     let b = k.base();
     let m = k.multiples();
+    let keys = groups::keys(b);
     let n = s.len();
     let at = 32 * (n / 32 - 1);
     let last = at + n % 32;
-    let first = all_pairs(b, &m, Pass::First, [0u8; 16], s);
+    let first = pass::all_pairs(b, &m, &keys, pass::Pass::First, [0u8; 16], s);
     let total = with_uv(b, &m, first, &s[at..last]);
     let sums = middle(b, &m, delta, way, total, &s[last..n]);
     let sum = sums.s;
     mask_uv(b, &m, sum, &mut s[at..last]);
-    let second = all_pairs(b, &m, Pass::Second, sum, s);
+    let second = pass::all_pairs(b, &m, &keys, pass::Pass::Second, sum, s);
     let all = with_uv(b, &m, second, &s[at..last]);
     put_last(b, &m, delta, way, all, sums, &mut s[last..n]);
 }

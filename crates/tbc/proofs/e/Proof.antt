@@ -1,6 +1,6 @@
 -- `tbc::e` meets its contract.
 use mathlib.Core.List.{List, _∷_, map}
-use mathlib.Core.Path.{_≡_, sym, _∙_}
+use mathlib.Core.Path.{_≡_, ap, sym, _∙_}
 use Prim.Native.Nat.{ℕ}
 use borrow.Author.Needs.{needs}
 use lib.ListN.{drop}
@@ -54,7 +54,7 @@ returns-2 c =
     let a = y .before .args in
     let K = base (a .k) in
     let zero : a .p .1 ≡ 0 = in-row-0 (a .p) (y .before .pre .0) (c .before .before .if1 .left) in
-    under y (drop 1 (k0 K)) (c .before .keys0 .result) (c .aes4 .result) (c .before .keys0 .ensures) (c .aes4 .ensures)
+    under y (drop 1 (k0 K)) (c .before .keys0 .result) (c .aes4 .result) (ap (map blockOf) (c .before .keys0 .ensures)) (c .aes4 .ensures)
     ∙ sym (in-row K (a .x) (a .p) 0 (c .before .before .if1 .left) zero ∙ E-405 K (a .x) (a .p .2))
 
 pub e-spec : {M : Type 1} → statement M

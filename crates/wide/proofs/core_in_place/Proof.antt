@@ -25,8 +25,11 @@ use Rattle.wide.proofs.core_in_place.Tie as tie
 abbrev begun : tie.After-multiples → tie.After-slice-known
 begun c = c .before .before
 
+abbrev keyed : tie.After-all-pairs → tie.After-keys
+keyed c = c .before .before .before .before
+
 abbrev taken : tie.After-all-pairs → tie.After-multiples
-taken c = c .before .before .before
+taken c = keyed c .before
 
 abbrev first : tie.After-with-uv → tie.After-all-pairs
 first c = c .before .before .before .before .before .before
@@ -38,7 +41,7 @@ abbrev ends : tie.After-mask-uv → tie.After-middle
 ends c = c .before .before .before .before
 
 abbrev masked : tie.After-all-pairs2 → tie.After-mask-uv
-masked c = c .before .before .before .before .before
+masked c = c .before .before .before .before .before .before
 
 abbrev second : tie.After-with-uv2 → tie.After-all-pairs2
 second c = c .before .before .before .before .before .before
@@ -80,26 +83,29 @@ whole c = cut (length (M c)) (c .pre .1)
 abbrev N : tie.After-mask-uv → List ℕ
 N c =
     let s = start c in
-    let P = passed c .all-pairs .last .1 .1 .1 .1 .0 in
+    let P = passed c .all-pairs .last .1 .1 .1 .1 .1 .0 in
     take (at s) P ++ (c .mask-uv .last .1 .1 .1 .0 ++ drop (end s - at s) (drop (at s) P))
 
 masked-long : (c : tie.After-mask-uv) → length (N c) ≡ length (M (start c))
 masked-long c =
     let s : tie.Start = start c in
     let p : tie.After-all-pairs = passed c in
-    let first-long : length (p .all-pairs .last .1 .1 .1 .1 .0) ≡ length (M s) = p .all-pairs .kept .1 .1 .1 .1 .0 in
-    put-length (p .all-pairs .last .1 .1 .1 .1 .0) (c .mask-uv .last .1 .1 .1 .0) (at s) (end s - at s) (omega (arith, whole s)) (c .mask-uv .kept .1 .1 .1 .0)
+    let first-long : length (p .all-pairs .last .1 .1 .1 .1 .1 .0) ≡ length (M s) = p .all-pairs .kept .1 .1 .1 .1 .1 .0 in
+    put-length (p .all-pairs .last .1 .1 .1 .1 .1 .0) (c .mask-uv .last .1 .1 .1 .0) (at s) (end s - at s) (omega (arith, whole s)) (c .mask-uv .kept .1 .1 .1 .0)
     ∙ first-long
 
 -- and so does the second pass leave it
-second-long : (c : tie.After-all-pairs2) → length (c .all-pairs2 .last .1 .1 .1 .1 .0) ≡ length (M (start (masked c)))
-second-long c = c .all-pairs2 .kept .1 .1 .1 .1 .0 ∙ masked-long (masked c)
+second-long : (c : tie.After-all-pairs2) → length (c .all-pairs2 .last .1 .1 .1 .1 .1 .0) ≡ length (M (start (masked c)))
+second-long c = c .all-pairs2 .kept .1 .1 .1 .1 .1 .0 ∙ masked-long (masked c)
 
 base-requires : tie.Need-base-requires
 base-requires c κs = search needs
 
 multiples-requires : tie.Need-multiples-requires
 multiples-requires c κs = search needs
+
+keys-requires : tie.Need-keys-requires
+keys-requires c κs = search needs
 
 sub-at : tie.Need-sub-at
 sub-at c = search needs
@@ -111,7 +117,9 @@ add-last : tie.Need-add-last
 add-last c = search needs
 
 all-pairs-requires : tie.Need-all-pairs-requires
-all-pairs-requires c κs = (omega arith, omega arith, of (c .before .before))
+all-pairs-requires c κs =
+    let k : tie.After-keys = c .before .before .before in
+    (omega arith, omega arith, of (k .before), k .keys .ensures .0)
 
 sub-with-uv : tie.Need-sub-with-uv
 sub-with-uv c = search needs
@@ -151,9 +159,9 @@ mask-uv-requires c κs = (search needs, of (taken (first (total (c .before .befo
 
 all-pairs-requires-2 : tie.Need-all-pairs-requires-2
 all-pairs-requires-2 c κs =
-    let m : tie.After-mask-uv = c .before .before .before .before in
+    let m : tie.After-mask-uv = c .before .before .before .before .before in
     let s = start m in
-    (omega (arith, masked-long m, s .pre .1), omega (arith, masked-long m, s .pre .2), of (taken (passed m)))
+    (omega (arith, masked-long m, s .pre .1), omega (arith, masked-long m, s .pre .2), of (taken (passed m)), keyed (passed m) .keys .ensures .0)
 
 sub-with-uv-2 : tie.Need-sub-with-uv-2
 sub-with-uv-2 c = search needs
@@ -162,7 +170,9 @@ part-with-uv-start-2 : tie.Need-part-with-uv-start-2
 part-with-uv-start-2 c = search needs
 
 part-with-uv-end-2 : tie.Need-part-with-uv-end-2
-part-with-uv-end-2 c = search needs
+part-with-uv-end-2 c =
+    let p : tie.After-all-pairs2 = c .before .before .before .before in
+    omega (arith, second-long p, whole (start (masked p)))
 
 with-uv-requires-2 : tie.Need-with-uv-requires-2
 with-uv-requires-2 c κs =
@@ -188,8 +198,8 @@ same-length c =
     let last : tie.After-put-last = c .before .before in
     let p : tie.After-all-pairs2 = second (all last) in
     let s : tie.Start = start (masked p) in
-    let long : length (p .all-pairs2 .last .1 .1 .1 .1 .0) ≡ length (M s) = second-long p in
-    put-length (p .all-pairs2 .last .1 .1 .1 .1 .0) (last .put-last .last .1 .1 .1 .1 .1 .1 .0) (end s) (length (M s) - end s) (omega (arith, whole s)) (last .put-last .kept .1 .1 .1 .1 .1 .1 .0)
+    let long : length (p .all-pairs2 .last .1 .1 .1 .1 .1 .0) ≡ length (M s) = second-long p in
+    put-length (p .all-pairs2 .last .1 .1 .1 .1 .1 .0) (last .put-last .last .1 .1 .1 .1 .1 .1 .0) (end s) (length (M s) - end s) (omega (arith, whole s)) (last .put-last .kept .1 .1 .1 .1 .1 .1 .0)
     ∙ long
 
 returns : tie.Need-returns
@@ -213,8 +223,8 @@ returns c =
     let is-k : k ≡ rest (length (M s)) = omega arith in
     let is-n : n ≡ 32 = omega (arith, whole s) in
     together (E K) key (a .delta) block (firstOf (a .way)) (secondOf (a .way)) (M s) (s .pre .1) bytes k n is-k is-n
-    (p1 .all-pairs .result) (p1 .all-pairs .last .1 .1 .1 .1 .0) (x .with-uv .result) (e .middle .result .sx) (e .middle .result .sy) (e .middle .result .s)
-    (m .mask-uv .last .1 .1 .1 .0) (p2 .all-pairs2 .result) (p2 .all-pairs2 .last .1 .1 .1 .1 .0) (y .with-uv2 .result) (last .put-last .last .1 .1 .1 .1 .1 .1 .0)
+    (p1 .all-pairs .result) (p1 .all-pairs .last .1 .1 .1 .1 .1 .0) (x .with-uv .result) (e .middle .result .sx) (e .middle .result .sy) (e .middle .result .s)
+    (m .mask-uv .last .1 .1 .1 .0) (p2 .all-pairs2 .result) (p2 .all-pairs2 .last .1 .1 .1 .1 .1 .0) (y .with-uv2 .result) (last .put-last .last .1 .1 .1 .1 .1 .1 .0)
     (p1 .all-pairs .ensures .0) (p1 .all-pairs .ensures .1) (x .with-uv .ensures) (e .middle .ensures .0) (e .middle .ensures .1) (e .middle .ensures .2)
     (m .mask-uv .ensures) (p2 .all-pairs2 .ensures .0) (p2 .all-pairs2 .ensures .1) (y .with-uv2 .ensures) (last .put-last .ensures)
     ∙ ap (λ (K : figure6.Key). core (E K) (a .delta) (firstOf (a .way)) (secondOf (a .way)) (M s)) (is-base (taken p1))
@@ -225,6 +235,7 @@ core-in-place-spec =
     (tie.spec
     base-requires
     multiples-requires
+    keys-requires
     sub-at
     mul-at
     add-last

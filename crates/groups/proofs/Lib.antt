@@ -1,0 +1,5 @@
+pub mod Each
+pub mod Powers
+pub mod Held
+pub mod Numbered
+pub mod OnPlanes
