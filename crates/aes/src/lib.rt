@@ -91,13 +91,12 @@ pub fn aesenc(s: Columns, k: Columns) -> Columns
 
 // The first key added, and a round for each that follows it. AES4 and AES10 share this one loop, so that the compiler puts the round into
 // its body and the state stays in registers. The keys are columns already: a caller has them for many blocks.
-fn rounds(k: &[Columns], x: [u8; 16]) -> [u8; 16]
+fn rounds(k: &[Columns], x: Columns) -> Columns
     requires { ⌜ 1 ≤ length (now k) ⌝ }
-    ensures { λ r. ⌜ r ≡ AES (map blockOf (now (k .entry))) x ⌝ }
+    ensures { λ r. ⌜ r ≡ columnsOf (AES (map blockOf (now (k .entry))) (blockOf x)) ⌝ }
 {
     let first = k[0];
-    let text = columns::of_block(x);
-    let mut s = columns::xor(text, first);
+    let mut s = columns::xor(x, first);
     let mut i: usize = 1;
     while i < k.len() {
         let key = k[i];
@@ -105,6 +104,16 @@ fn rounds(k: &[Columns], x: [u8; 16]) -> [u8; 16]
         s = y;
         i += 1;
     }
+    s
+}
+
+// The same of a block of bytes.
+fn rounds_of_bytes(k: &[Columns], x: [u8; 16]) -> [u8; 16]
+    requires { ⌜ 1 ≤ length (now k) ⌝ }
+    ensures { λ r. ⌜ r ≡ AES (map blockOf (now (k .entry))) x ⌝ }
+{
+    let text = columns::of_block(x);
+    let s = rounds(k, text);
     columns::to_block(s)
 }
 
@@ -112,12 +121,19 @@ fn rounds(k: &[Columns], x: [u8; 16]) -> [u8; 16]
 pub fn aes4(k: [Columns; 5], x: [u8; 16]) -> [u8; 16]
     ensures { λ r. ⌜ r ≡ AES4 (map blockOf k) x ⌝ }
 {
-    rounds(&k, x)
+    rounds_of_bytes(&k, x)
+}
+
+// AES4 of a block that is columns and stays so: a caller that goes on from it spares both conversions.
+pub fn aes4_columns(k: &[Columns; 5], x: Columns) -> Columns
+    ensures { λ r. ⌜ r ≡ columnsOf (AES4 (map blockOf (now (k .entry))) (blockOf x)) ⌝ }
+{
+    rounds(k, x)
 }
 
 // AES10 under eleven keys.
 pub fn aes10(k: [Columns; 11], x: [u8; 16]) -> [u8; 16]
     ensures { λ r. ⌜ r ≡ AES10 (map blockOf k) x ⌝ }
 {
-    rounds(&k, x)
+    rounds_of_bytes(&k, x)
 }

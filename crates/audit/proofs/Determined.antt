@@ -76,6 +76,7 @@ use Rattle.rows.proofs.turned.Reads as rows-turned
 use Rattle.rows.proofs.mixed.Reads as rows-mixed
 use Rattle.sixteen.proofs.round.Reads as sixteen-round
 use Rattle.sixteen.proofs.rounds4.Reads as sixteen-rounds4
+use Rattle.aes.proofs.aes4_columns.Reads as aes-aes4-columns
 use Rattle.tbc.proofs.running_mask.Reads as tbc-running-mask
 use Rattle.tbc.proofs.keys_adding.Reads as tbc-keys-adding
 use Rattle.groups.proofs.xor.Reads as groups-xor
@@ -332,6 +333,9 @@ aes-aes4-determined κs a z w e f p q = one p q
 
 pub aes-aes10-determined : (κs : _) (a : _) (z w : _) (e f : _) → aes-aes10.Learnt κs a z e → aes-aes10.Learnt κs a w f → z ≡ w
 aes-aes10-determined κs a z w e f p q = one p q
+
+pub aes-aes4-columns-determined : (κs : _) (a : _) (z w : _) (e f : _) → aes-aes4-columns.Learnt κs a z e → aes-aes4-columns.Learnt κs a w f → z ≡ w
+aes-aes4-columns-determined κs a z w e f p q = one p q
 
 -- ---- Multiples of a block: `multiples`
 

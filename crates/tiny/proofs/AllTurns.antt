@@ -1,54 +1,65 @@
--- The turns of AEZ-tiny on half-bytes: one, as a function makes it; as loops count them; and all of them on the halves of a string.
+-- The turns of AEZ-tiny on blocks: as loops count them; and all of them on the halves of a string.
 use mathlib.Core.List.{List}
-use mathlib.Core.Path.{_≡_, refl, ap, sym, subst, _∙_}
-use Prim.Native.Nat.{ℕ, zero, suc, _+_, _-_, _<_}
+use mathlib.Core.Path.{_≡_, refl, ap, sym, _∙_}
+use Prim.Native.Nat.{ℕ, zero, suc, _+_, _-_, _*_, _≤_, _<_}
 use native.Mathlib.Numerals.{add-one}
 use native.Mathlib.Omega.{arith}
-use lib.ListN.{length, take}
-use Rattle.paper.specs.Strings.{Bytes, _⊕_}
-use Rattle.paper.specs.Figure6.{BlockFunction}
-use Rattle.paper.specs.Figure5.{Halves, halves, joined}
-use Rattle.tiny.specs.HalfBytes.{halfBytes, wholeBytes, halfE, halfTurn, halfTurnsUp, halfTurnsDown}
-use Rattle.tiny.specs.declared.Halves as Code
-use Rattle.tiny.specs.Firsts.{firsts}
-use Rattle.tiny.proofs.OnHalves.{onHalves}
+use lib.ListN.{length}
+use Rattle.paper.specs.Strings.{Bytes, Digits, Block, _⊕_}
+use Rattle.paper.specs.Section7.{AES4}
+use Rattle.paper.specs.Figure6.{row, BlockFunction}
+use Rattle.paper.specs.Figure5.{Halves, halves, joined, tinyIndex}
+use Rattle.laws.proofs.BlockFunction.{GivesBlocks}
+use Rattle.laws.proofs.Counts.{up, down, through, counts-up, counts-down}
+use Rattle.laws.proofs.Feistel.{feistel}
+use Rattle.tiny.specs.HalfBytes.{halfBytes, wholeBytes}
+use Rattle.tiny.specs.Blocks.{mark, front, packedBoth, firsts, blockTurn, blockTurnsUp, blockTurnsDown}
+use Rattle.tiny.proofs.OnHalves.{halfTurns}
+use Rattle.tiny.proofs.OnBlocks.{blockAdded, same-turns}
 
-module _ (f : BlockFunction) (Δ : Bytes) (n j : ℕ) where
-  -- one turn: X is what goes into the right half, and Y what E gives
-  pub one-turn : (i : ℕ) (L R X Y : List ℕ) → Y ≡ halfE f Δ j i R → X ≡ L ⊕ take n (halfBytes Y)
-      → _≡_ {A = Halves} (record { L = R; R = X }) (halfTurn f Δ n j i (record { L = L; R = R }))
-  unfolding halfTurn
-  one-turn i L R X Y y x = ap (λ (Z : List ℕ). record { L = R; R = Z }) (x ∙ ap (λ (Z : Bytes). L ⊕ take n (halfBytes Z)) y)
-
+module _ (Ks : List Bytes) (M : Bytes) where
   -- t is s after the turns below k, and u is t after turn k
-  pub up-none : (s : Halves) → s ≡ halfTurnsUp f Δ n j 0 s
-  unfolding halfTurnsUp
+  pub up-none : (s : Halves) → s ≡ blockTurnsUp Ks M 0 s
+  unfolding blockTurnsUp
   up-none s = refl
 
-  pub up-more : (k : ℕ) (s t u : Halves) → t ≡ halfTurnsUp f Δ n j k s → u ≡ halfTurn f Δ n j k t → u ≡ halfTurnsUp f Δ n j (k + 1) s
-  unfolding halfTurnsUp
-  up-more k s t u e d = d ∙ ap (halfTurn f Δ n j k) e ∙ ap (λ (i : ℕ). halfTurnsUp f Δ n j i s) (sym (add-one k))
+  pub up-more : (k : ℕ) (s t u : Halves) → t ≡ blockTurnsUp Ks M k s → u ≡ blockTurn Ks M k t → u ≡ blockTurnsUp Ks M (k + 1) s
+  unfolding blockTurnsUp
+  up-more k s t u e d = d ∙ ap (blockTurn Ks M k) e ∙ ap (λ (i : ℕ). blockTurnsUp Ks M i s) (sym (add-one k))
 
   -- the turns below k make w of t, and u is t after turn k - 1
-  pub down-more : (k : ℕ) (t u w : Halves) → 0 < k → halfTurnsDown f Δ n j k t ≡ w → u ≡ halfTurn f Δ n j (k - 1) t → halfTurnsDown f Δ n j (k - 1) u ≡ w
-  unfolding halfTurnsDown
+  pub down-more : (k : ℕ) (t u w : Halves) → 0 < k → blockTurnsDown Ks M k t ≡ w → u ≡ blockTurn Ks M (k - 1) t → blockTurnsDown Ks M (k - 1) u ≡ w
+  unfolding blockTurnsDown
   down-more zero t u w h e d = absurd (omega arith)
   down-more (suc k) t u w h e d =
       let less : suc k - 1 ≡ k = omega arith in
-      ap (halfTurnsDown f Δ n j (suc k - 1)) d ∙ ap (λ (i : ℕ). halfTurnsDown f Δ n j i (halfTurn f Δ n j i t)) less ∙ e
+      ap (blockTurnsDown Ks M (suc k - 1)) d ∙ ap (λ (i : ℕ). blockTurnsDown Ks M i (blockTurn Ks M i t)) less ∙ e
 
-  pub down-none : (t w : Halves) → halfTurnsDown f Δ n j 0 t ≡ w → t ≡ w
-  unfolding halfTurnsDown
+  pub down-none : (t w : Halves) → blockTurnsDown Ks M 0 t ≡ w → t ≡ w
+  unfolding blockTurnsDown
   down-none t w e = e
 
--- Y, which is M, is split into halves, turned and joined: both holds its halves, t what the turns make of them, and Z is t's halves joined
-pub all-turns :
-    (all : Halves → Halves) (n : ℕ) {M Y Z : Bytes} (both t : Code.Halves) → Y ≡ M → length Y ≡ n
-    → firsts (length Y) both ≡ halves (length Y) (halfBytes Y) → firsts n t ≡ all (firsts n both)
-    → Z ≡ wholeBytes (joined (firsts (length Y) t)) → Z ≡ onHalves all n M
-all-turns all n {M} {Y} both t is long split turns joins =
-    joins
-    ∙ ap (λ (k : ℕ). wholeBytes (joined (firsts k t))) long
-    ∙ ap (λ (s : Halves). wholeBytes (joined s))
-    (turns
-    ∙ ap all (subst (λ (k : ℕ). firsts k both ≡ halves k (halfBytes Y)) long split ∙ ap (λ (X : Bytes). halves n (halfBytes X)) is))
+  -- as the turns of a list
+  pub up-through : (k : ℕ) (s : Halves) → blockTurnsUp Ks M k s ≡ through (feistel (blockAdded Ks M)) (up k) s
+  unfolding blockTurnsUp blockTurn
+  up-through k s = counts-up (feistel (blockAdded Ks M)) (blockTurnsUp Ks M) (λ t. refl) (λ i t. refl) k s
+
+  pub down-through : (k : ℕ) (s : Halves) → blockTurnsDown Ks M k s ≡ through (feistel (blockAdded Ks M)) (down k) s
+  unfolding blockTurnsDown blockTurn
+  down-through k s = counts-down (feistel (blockAdded Ks M)) (blockTurnsDown Ks M) (λ t. refl) (λ i t. refl) k s
+
+-- n bytes Y are split into halves, turned and joined: s is the halves, t what the turns make of them, and Z is t's halves joined
+module _
+    (E : BlockFunction) (E-block : GivesBlocks E) (Δ : Bytes) (Δ-block : Block Δ) (n : ℕ) (few : n ≤ 31)
+    (Ks : List Bytes) (under : (X : Bytes) → Block X → AES4 Ks X ≡ E (row 0) (tinyIndex (8 * n)) (X ⊕ (Δ ⊕ mark n)))
+    {M : Bytes} (bits : M ≡ front n) where
+  pub all-turns : (l : List ℕ) {Y Z : Bytes} (s t : Halves) → Digits 8 n Y → s ≡ packedBoth (halves (length Y) (halfBytes Y))
+      → t ≡ through (feistel (blockAdded Ks M)) l s → Z ≡ wholeBytes (joined (firsts (length Y) t)) → Z ≡ halfTurns E Δ n l Y
+  all-turns l {Y} s t p split turns joins =
+      joins
+      ∙ ap (λ (k : ℕ). wholeBytes (joined (firsts k t))) (p .len)
+      ∙ ap (λ (h : Halves). wholeBytes (joined (firsts n h)))
+      (turns
+      ∙ ap (λ (N : Bytes). through (feistel (blockAdded Ks N)) l s) bits
+      ∙ ap (through (feistel (blockAdded Ks (front n))) l) (split ∙ ap (λ (k : ℕ). packedBoth (halves k (halfBytes Y))) (p .len)))
+      ∙ ap (λ (h : Halves). wholeBytes (joined h)) (same-turns E E-block Δ Δ-block n (tinyIndex (8 * n)) few Ks under l p)

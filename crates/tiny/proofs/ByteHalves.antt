@@ -1,12 +1,12 @@
 -- Bytes and their half-bytes: lengths, entries, and bits. A string of n bytes has n + n half-bytes, with the same bits.
 use mathlib.Core.List.{List, [], _∷_, _++_, append-assoc}
 use mathlib.Core.Path.{_≡_, refl, ap, ap₂, sym, _∙_}
-use Prim.Native.Nat.{ℕ, zero, suc, _+_, _-_, _*_, _/_, _%_, _<_}
+use Prim.Native.Nat.{ℕ, zero, suc, _+_, _-_, _*_, _/_, _%_, _^_, _<_}
 use native.Mathlib.Nat.{mod-lt, zero-lt-suc}
 use native.Mathlib.Omega.{arith}
 use lib.Arith.{digits-div, digits-mod}
-use lib.ListN.{length, getD}
-use Rattle.paper.specs.Strings.{Bytes, Digits, digits, bits}
+use lib.ListN.{length, getD, replicate}
+use Rattle.paper.specs.Strings.{Bytes, Below, Digits, zip, digits, bits}
 use Rattle.laws.proofs.BitStrings.{digits-split, bits-mod, inBits}
 use Rattle.tiny.specs.HalfBytes.{halfBytes, byteOf, wholeBytes}
 
@@ -68,6 +68,61 @@ wholeBytes-at (x ∷ y ∷ X) (suc i) h =
     let a : suc (suc (2 * i)) ≡ 2 * suc i = omega arith in
     let b : suc (suc (2 * i + 1)) ≡ 2 * suc i + 1 = omega arith in
     wholeBytes-at X i (omega arith) ∙ ap₂ (λ (u v : ℕ). byteOf (getD (x ∷ y ∷ X) u 0) (getD (x ∷ y ∷ X) v 0)) a b
+
+-- ---- there and back
+
+pub wholeBytes-halfBytes : (X : Bytes) → Below 256 X → wholeBytes (halfBytes X) ≡ X
+unfolding halfBytes wholeBytes
+wholeBytes-halfBytes [] p = refl
+wholeBytes-halfBytes (b ∷ X) p =
+    let small : b < 256 = p .0 in
+    let whole : byteOf (b / 16) (b % 16) ≡ b = omega arith in
+    ap₂ (λ (x : ℕ) (l : Bytes). x ∷ l) whole (wholeBytes-halfBytes X (p .1))
+
+pub halfBytes-wholeBytes : (n : ℕ) (X : List ℕ) → length X ≡ n + n → Below 16 X → halfBytes (wholeBytes X) ≡ X
+unfolding halfBytes wholeBytes
+halfBytes-wholeBytes n [] e p = refl
+halfBytes-wholeBytes n (h ∷ []) e p = absurd (omega arith)
+halfBytes-wholeBytes n (h ∷ l ∷ X) e p =
+    let high : h < 16 = p .0 in
+    let low : l < 16 = p .1 .0 in
+    let first : byteOf h l / 16 ≡ h = omega arith in
+    let second : byteOf h l % 16 ≡ l = omega arith in
+    λ i. first i ∷ second i ∷ halfBytes-wholeBytes (n - 1) X (omega arith) (p .1 .1) i
+
+-- ---- joined, and of zeros
+
+pub halfBytes-append : (X Y : Bytes) → halfBytes (X ++ Y) ≡ halfBytes X ++ halfBytes Y
+unfolding halfBytes
+halfBytes-append [] Y = refl
+halfBytes-append (b ∷ X) Y = ap (λ (l : List ℕ). b / 16 ∷ b % 16 ∷ l) (halfBytes-append X Y)
+
+pub halfBytes-zeros : (n : ℕ) → halfBytes (replicate n 0) ≡ replicate (n + n) 0
+unfolding halfBytes
+halfBytes-zeros zero = refl
+halfBytes-zeros (suc n) =
+    let two : suc (suc (n + n)) ≡ suc n + suc n = omega arith in
+    ap (λ (l : List ℕ). 0 ∷ 0 ∷ l) (halfBytes-zeros n) ∙ ap (λ (k : ℕ). replicate k 0) two
+
+-- ---- an operation that works bit by bit
+
+module _
+    (f : ℕ → ℕ → ℕ)
+    (mod2 : (x y k : ℕ) → f x y % 2 ^ k ≡ f (x % 2 ^ k) (y % 2 ^ k))
+    (block : (k a b r s : ℕ) → r < 2 ^ k → s < 2 ^ k → f (a * 2 ^ k + r) (b * 2 ^ k + s) ≡ f a b * 2 ^ k + f r s) where
+  byte-zip : (a b c d : ℕ) → byteOf (f a c) (f b d) ≡ f (byteOf a b) (byteOf c d)
+  byte-zip a b c d =
+      ap₂ (λ (x y : ℕ). x * 16 + y) (mod2 a c 4) (mod2 b d 4)
+      ∙ sym (block 4 (a % 16) (c % 16) (b % 16) (d % 16) (mod-lt b (zero-lt-suc 15)) (mod-lt d (zero-lt-suc 15)))
+
+  pub wholeBytes-zip : (X Y : List ℕ) → wholeBytes (zip f X Y) ≡ zip f (wholeBytes X) (wholeBytes Y)
+  unfolding wholeBytes zip
+  wholeBytes-zip [] Y = refl
+  wholeBytes-zip (a ∷ []) [] = refl
+  wholeBytes-zip (a ∷ []) (c ∷ Y) = refl
+  wholeBytes-zip (a ∷ b ∷ X) [] = refl
+  wholeBytes-zip (a ∷ b ∷ X) (c ∷ []) = refl
+  wholeBytes-zip (a ∷ b ∷ X) (c ∷ d ∷ Y) = ap₂ (λ (x : ℕ) (l : Bytes). x ∷ l) (byte-zip a b c d) (wholeBytes-zip X Y)
 
 -- ---- bits
 

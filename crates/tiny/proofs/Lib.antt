@@ -1,7 +1,10 @@
 mod ByteHalves
 mod PaddedHalves
+mod PackedHalves
 mod LastBits
 mod OnHalves
+mod OnBlocks
 mod FirstByte
 mod Indices
 mod AllTurns
+mod ColumnBits

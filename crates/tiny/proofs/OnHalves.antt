@@ -1,33 +1,37 @@
--- AEZ-tiny on half-bytes, with the turns in any order, is that on bits: the whole of both directions, as the figure has them.
+-- AEZ-tiny on half-bytes, with the turns in any order, is that on bits: the whole of both directions.
 use mathlib.Core.List.{List}
-use mathlib.Core.Path.{_≡_, refl, ap, ap₂, sym, _∙_}
+use mathlib.Core.Path.{_≡_, ap, ap₂, sym, _∙_}
 use Prim.Native.Nat.{ℕ, _+_, _*_, _/_, _≤_}
 use native.Mathlib.Omega.{arith}
 use lib.ListN.{take}
 use Rattle.paper.specs.Strings.{Bytes, Bits, Digits, Block, _⊕_, number, bits, bytes}
 use Rattle.paper.specs.Figure6.{row, BlockFunction}
-use Rattle.paper.specs.Figure5.{Halves, halves, joined, tinyRounds, tinyIndex, tinyE, lastStep, encipherTiny, decipherTiny}
+use Rattle.paper.specs.Figure5.{tinyRounds, tinyIndex, tinyE, lastStep, encipherTiny, decipherTiny}
 use Rattle.laws.proofs.BlockFunction.{GivesBlocks}
-use Rattle.laws.proofs.Counts.{up, down, counts-up, counts-down}
+use Rattle.laws.proofs.Counts.{up, down}
 use Rattle.laws.proofs.Digits.{⊕-block, take-digits}
 use Rattle.laws.proofs.BitStrings.{inBits, inBits-take, bits-number, bytes-bits}
 use Rattle.laws.proofs.Bitwise.{bits-⊕}
 use Rattle.laws.proofs.KeyBlocks.{number-block}
 use Rattle.laws.proofs.Padding.{mark-digits}
-use Rattle.laws.proofs.Feistel.{RoundFunction, feistel, pass, pass-digits, pass-inBits}
+use Rattle.laws.proofs.Feistel.{RoundFunction, pass, pass-digits, pass-inBits}
 use Rattle.laws.proofs.Tiny.{added, allTurns, encipherTiny-bits, decipherTiny-bits}
-use Rattle.tiny.specs.HalfBytes.{halfBytes, wholeBytes, half10*, halfE, halfTurn, halfTurnsUp, halfTurnsDown, lastBytes}
+use Rattle.tiny.specs.HalfBytes.{halfBytes, wholeBytes, lastBytes}
 use Rattle.tiny.proofs.ByteHalves.{halfBytes-digits, wholeBytes-digits, bits-halfBytes, bits-wholeBytes}
-use Rattle.tiny.proofs.PaddedHalves.{inBits-10*}
+use Rattle.tiny.proofs.PaddedHalves.{half10*, inBits-10*}
 use Rattle.tiny.proofs.LastBits.{tinyE-bytes, lastBytes-digits, last-bits}
 
+-- 216: E of turn i, for the right half R
+unfoldable pub halfE : BlockFunction → Bytes → ℕ → ℕ → List ℕ → Bytes
+halfE E Δ j i R = E (row 0) j (Δ ⊕ (wholeBytes (half10* R) ⊕ number i))
+
 -- 216: what turn i adds
-abbrev halfAdded : BlockFunction → Bytes → ℕ → ℕ → RoundFunction
+abbrev pub halfAdded : BlockFunction → Bytes → ℕ → ℕ → RoundFunction
 halfAdded E Δ n j i R = take n (halfBytes (halfE E Δ j i R))
 
--- 214 to 217, but for its `if`, with all turns as one function
-abbrev pub onHalves : (Halves → Halves) → ℕ → Bytes → Bytes
-onHalves all n M = wholeBytes (joined (all (halves n (halfBytes M))))
+-- 214 to 217, but for its `if`: the turns of a list on n bytes
+abbrev pub halfTurns : BlockFunction → Bytes → ℕ → List ℕ → Bytes → Bytes
+halfTurns E Δ n l M = wholeBytes (pass (halfAdded E Δ n (tinyIndex (8 * n))) n l (halfBytes M))
 
 module _ (E : BlockFunction) (E-block : GivesBlocks E) (Δ : Bytes) (Δ-block : Block Δ) (n j : ℕ) (few : n ≤ 31) where
   module _ (i : ℕ) (R : List ℕ) (p : Digits 4 n R) where
@@ -38,11 +42,14 @@ module _ (E : BlockFunction) (E-block : GivesBlocks E) (Δ : Bytes) (Δ-block : 
     padded : Block (wholeBytes (half10* R) ⊕ number i)
     padded = ⊕-block (wholeBytes-digits 16 (half10* R) (padded-digits .len)) (number-block i)
 
-    halfE-digits : Digits 4 32 (halfBytes (halfE E Δ j i R))
+    pub halfE-block : Block (halfE E Δ j i R)
     unfolding halfE
-    halfE-digits = halfBytes-digits {n = 16} (E-block (row 0) j _ (⊕-block Δ-block padded))
+    halfE-block = E-block (row 0) j _ (⊕-block Δ-block padded)
 
-    halfAdded-digits : Digits 4 n (halfAdded E Δ n j i R)
+    halfE-digits : Digits 4 32 (halfBytes (halfE E Δ j i R))
+    halfE-digits = halfBytes-digits {n = 16} halfE-block
+
+    pub halfAdded-digits : Digits 4 n (halfAdded E Δ n j i R)
     halfAdded-digits = take-digits n (omega arith) halfE-digits
 
     added-inBits : added E Δ (4 * n) j i (inBits 4 R) ≡ inBits 4 (halfAdded E Δ n j i R)
@@ -76,41 +83,32 @@ module _ (E : BlockFunction) (E-block : GivesBlocks E) (Δ : Bytes) (Δ-block : 
 module _
     (E : BlockFunction) (E-block : GivesBlocks E) (Δ : Bytes) (Δ-block : Block Δ)
     (n : ℕ) (some : 1 ≤ n) (few : n ≤ 31) where
-  abbrev halfTurns : List ℕ → Bytes → Bytes
-  halfTurns l M = wholeBytes (pass (halfAdded E Δ n (tinyIndex (8 * n))) n l (halfBytes M))
-
-  allTurns-bits : (l : List ℕ) {M : Bytes} → Digits 8 n M → allTurns E Δ n l (bits M) ≡ bits (halfTurns l M)
+  allTurns-bits : (l : List ℕ) {M : Bytes} → Digits 8 n M → allTurns E Δ n l (bits M) ≡ bits (halfTurns E Δ n l M)
   allTurns-bits l {M} p =
       let half : 8 * n / 2 ≡ 4 * n = omega arith in
       ap (λ (h : ℕ). pass (added E Δ h (tinyIndex (8 * n))) h l (bits M)) half
       ∙ passed-bits E E-block Δ Δ-block n (tinyIndex (8 * n)) few l p
 
-  halfTurns-digits : (l : List ℕ) {M : Bytes} → Digits 8 n M → Digits 8 n (halfTurns l M)
+  halfTurns-digits : (l : List ℕ) {M : Bytes} → Digits 8 n M → Digits 8 n (halfTurns E Δ n l M)
   halfTurns-digits l p = passed-digits E E-block Δ Δ-block n (tinyIndex (8 * n)) few l p
 
   module _ (M : Bytes) (p : Digits 8 n M) where
     -- enciphering on half-bytes
-    pub encipherTiny-halfBytes : encipherTiny E Δ M ≡ lastBytes E Δ (onHalves (halfTurnsUp E Δ n (tinyIndex (8 * n)) (tinyRounds (8 * n))) n M)
-    unfolding halfTurnsUp halfTurn
+    pub encipherTiny-halfBytes : encipherTiny E Δ M ≡ lastBytes E Δ (halfTurns E Δ n (up (tinyRounds (8 * n))) M)
     encipherTiny-halfBytes =
         let l : List ℕ = up (tinyRounds (8 * n)) in
         let q = halfTurns-digits l p in
         encipherTiny-bits E Δ n p
         ∙ ap (λ (X : Bits). bytes (lastStep E Δ (8 * n) X)) (allTurns-bits l p)
         ∙ ap bytes (last-bits E E-block Δ Δ-block n some q)
-        ∙ bytes-bits (lastBytes E Δ (halfTurns l M)) (lastBytes-digits E E-block Δ Δ-block n some q .low)
-        ∙ ap (λ (s : Halves). lastBytes E Δ (wholeBytes (joined s)))
-        (sym (counts-up (feistel (halfAdded E Δ n (tinyIndex (8 * n)))) (halfTurnsUp E Δ n (tinyIndex (8 * n))) (λ s. refl) (λ k s. refl) (tinyRounds (8 * n)) (halves n (halfBytes M))))
+        ∙ bytes-bits (lastBytes E Δ (halfTurns E Δ n l M)) (lastBytes-digits E E-block Δ Δ-block n some q .low)
 
     -- deciphering on half-bytes
-    pub decipherTiny-halfBytes : decipherTiny E Δ M ≡ onHalves (halfTurnsDown E Δ n (tinyIndex (8 * n)) (tinyRounds (8 * n))) n (lastBytes E Δ M)
-    unfolding halfTurnsDown halfTurn
+    pub decipherTiny-halfBytes : decipherTiny E Δ M ≡ halfTurns E Δ n (down (tinyRounds (8 * n))) (lastBytes E Δ M)
     decipherTiny-halfBytes =
         let l : List ℕ = down (tinyRounds (8 * n)) in
         let q = lastBytes-digits E E-block Δ Δ-block n some p in
         decipherTiny-bits E Δ n p
         ∙ ap (λ (X : Bits). bytes (allTurns E Δ n l X)) (last-bits E E-block Δ Δ-block n some p)
         ∙ ap bytes (allTurns-bits l q)
-        ∙ bytes-bits (halfTurns l (lastBytes E Δ M)) (halfTurns-digits l q .low)
-        ∙ ap (λ (s : Halves). wholeBytes (joined s))
-        (sym (counts-down (feistel (halfAdded E Δ n (tinyIndex (8 * n)))) (halfTurnsDown E Δ n (tinyIndex (8 * n))) (λ s. refl) (λ k s. refl) (tinyRounds (8 * n)) (halves n (halfBytes (lastBytes E Δ M)))))
+        ∙ bytes-bits (halfTurns E Δ n l (lastBytes E Δ M)) (halfTurns-digits l q .low)

@@ -7,7 +7,10 @@ use lib.ListN.{length, replicate}
 use Rattle.paper.specs.Strings.{Bytes, Bits, Block, zeroFill, bits0*, bits10*, pad10*, digits, bits}
 use Rattle.laws.proofs.BitStrings.{inBits, length-inBits, inBits-append, inBits-zeros, length-bits, bits-append, bits-inBits}
 use Rattle.laws.proofs.Padding.{mark-short, pad-block}
-use Rattle.tiny.specs.HalfBytes.{half10*}
+
+-- X10* in half-bytes: the 1 bit and three zeros are the half-byte 8
+unfoldable pub half10* : List ℕ → List ℕ
+half10* X = zeroFill 32 (X ++ 8 ∷ [])
 
 pub inBits-10* : (X : List ℕ) → length X < 32 → bits10* (inBits 4 X) ≡ inBits 4 (half10* X)
 unfolding bits10* half10* inBits digits

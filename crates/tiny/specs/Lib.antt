@@ -1,2 +1,2 @@
 pub mod HalfBytes
-pub mod Firsts
+pub mod Blocks

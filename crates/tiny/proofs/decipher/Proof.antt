@@ -1,23 +1,32 @@
 -- `tiny::decipher` meets its contract.
-use mathlib.Core.Path.{_≡_, refl, ap, sym, _∙_}
+use mathlib.Core.List.{List, map}
+use mathlib.Core.Path.{_≡_, refl, ap, sym, subst⁻¹, _∙_}
 use Prim.Native.Nat.{ℕ, _*_, _≤_}
 use native.Mathlib.Omega.{arith}
 use borrow.Author.Needs.{needs}
 use lib.ListN.{length}
-use Rattle.paper.specs.Strings.{Bytes, Digits, Block}
+use Rattle.paper.specs.Strings.{Bytes, Digits, Block, _⊕_}
+use Rattle.paper.specs.Section7.{AES4}
 use Rattle.paper.specs.Figure6 as figure6
-use Rattle.paper.specs.Figure6.{BlockFunction, E}
+use Rattle.paper.specs.Figure6.{BlockFunction, row, E}
 use Rattle.paper.specs.Figure5.{tinyRounds, tinyIndex, decipherTiny}
 use Rattle.laws.proofs.BlockFunction.{GivesBlocks}
-use Rattle.laws.proofs.Digits.{below-of}
+use Rattle.laws.proofs.Counts.{down}
+use Rattle.laws.proofs.Digits.{below-of, ⊕-block}
 use Rattle.laws.proofs.KeyBlocks.{E-block}
 use Rattle.block.proofs.Arrays.{array-bytes}
+use Rattle.columns.specs.Columns.{columnsOf, blockOf}
+use Rattle.columns.proofs.Conversions.{made}
 use Rattle.tbc.specs.Meaning.{blocks, base, OfJ}
+use Rattle.tbc.proofs.Adding.{adding}
 use Rattle.tbc.proofs.Keys.{base-bytes, has-blocks, of-j}
-use Rattle.tiny.specs.HalfBytes.{halfTurnsDown}
+use Rattle.tiny.specs.HalfBytes.{lastBytes}
+use Rattle.tiny.specs.Blocks.{mark, front, blocksOf}
 use Rattle.tiny.proofs.LastBits.{lastBytes-digits}
-use Rattle.tiny.proofs.OnHalves.{decipherTiny-halfBytes}
-use Rattle.tiny.proofs.AllTurns.{all-turns}
+use Rattle.tiny.proofs.PackedHalves.{front-block}
+use Rattle.tiny.proofs.OnHalves.{halfTurns, decipherTiny-halfBytes}
+use Rattle.tiny.proofs.OnBlocks.{mark-block}
+use Rattle.tiny.proofs.AllTurns.{down-through, all-turns}
 use Rattle.tiny.proofs.decipher.Statement.{statement}
 use Rattle.tiny.proofs.decipher.Tie as tie
 
@@ -25,31 +34,20 @@ use Rattle.tiny.proofs.decipher.Tie as tie
 abbrev at-turns : tie.After-put-joined → tie.After-turns-down
 at-turns c = c .before .before
 
-abbrev at-last : tie.After-turns-down → tie.After-last-step
-at-last c = c .before .before .before .before .before .before
+abbrev at-front : tie.After-turns-down → tie.After-front
+at-front c = c .before .before .before .before
 
-abbrev taken : tie.After-last-step → tie.After-multiples
-taken c = c .before .before .before
+abbrev at-last : tie.After-keys-for → tie.After-last-step
+at-last c = c .before .before .before .before
+
+abbrev stepped : tie.After-last-step → tie.After-multiples
+stepped c = c .before .before .before
+
+abbrev taken : tie.After-keys-for → tie.After-multiples
+taken c = stepped (at-last c)
 
 abbrev known : tie.After-multiples → tie.After-slice-known
 known c = c .before .before
-
--- the string, its length, and the block function
-abbrev M : tie.After-last-step → Bytes
-M c = known (taken c) .before .args .s .now
-
-abbrev f : tie.After-last-step → BlockFunction
-f c = E (base (taken c .before .base .result))
-
-f-block : (c : tie.After-last-step) → GivesBlocks (f c)
-f-block c =
-    E-block (base-bytes (taken c .before .base .result))
-
-delta-block : (c : tie.After-last-step) → Block (known (taken c) .before .args .delta)
-delta-block c = array-bytes 16 _ _ (known (taken c) .before .good .1 .0)
-
-M-bytes : (c : tie.After-last-step) → Digits 8 (length (M c)) (M c)
-M-bytes c = record { len = refl; low = below-of 256 (M c) (λ i h. omega (arith, known (taken c) .slice-known .given i)) }
 
 -- the base has the key's blocks
 is-base : (c : tie.After-multiples) → base (c .before .base .result) ≡ blocks (known c .before .args .k)
@@ -61,51 +59,95 @@ is-base c =
 of : (c : tie.After-multiples) → OfJ (c .before .base .result) (c .multiples .result)
 of c = let b = c .before .base in of-j (known c .before .args .k) (b .result) (c .multiples .result) (is-base c) (c .multiples .ensures)
 
-base-requires : tie.Need-base-requires
-base-requires c κs = search needs
+-- the string, its length, Delta and the block function
+module _ (c : tie.After-multiples) where
+  abbrev M : Bytes
+  M = known c .before .args .s .now
 
-multiples-requires : tie.Need-multiples-requires
-multiples-requires c κs = search needs
+  abbrev n : ℕ
+  n = length M
+
+  abbrev delta : Bytes
+  delta = known c .before .args .delta
+
+  abbrev f : BlockFunction
+  f = E (base (c .before .base .result))
+
+  some : 1 ≤ n
+  some = known c .before .pre .1
+
+  few : n ≤ 31
+  few = known c .before .pre .2
+
+  f-block : GivesBlocks f
+  f-block = E-block (base-bytes (c .before .base .result))
+
+  delta-block : Block delta
+  delta-block = array-bytes 16 _ _ (known c .before .good .1 .0)
+
+  M-bytes : Digits 8 n M
+  M-bytes = record { len = refl; low = below-of 256 M (λ i h. omega (arith, known c .slice-known .given i)) }
+
+-- AES4 under the keys is the turns' E
+under : (c : tie.After-keys-for) (X : Bytes) → Block X
+    → AES4 (map blockOf (c .keys-for .result)) X ≡ f (taken c) (row 0) (tinyIndex (8 * n (taken c))) (X ⊕ (delta (taken c) ⊕ mark (n (taken c))))
+under c X p =
+    let k = taken c in
+    ap (λ (l : List (List ℕ)). AES4 (map blockOf l) X) (c .keys-for .ensures)
+    ∙ adding (k .before .base .result) (tinyIndex (8 * n k)) (⊕-block (delta-block k) (mark-block (n k) (few k))) p
+
+-- the bits of a half
+bits-are : (c : tie.After-front) → blockOf (c .front .result) ≡ front (n (taken (c .before)))
+bits-are c = let k = taken (c .before) in made (front-block (n k) (omega (arith, few k))) (c .front .ensures)
+
+-- the string after the last step
+abbrev C : tie.After-last-step → Bytes
+C c = lastBytes (f (stepped c)) (delta (stepped c)) (M (stepped c))
+
+C-bytes : (c : tie.After-last-step) → Digits 8 (n (stepped c)) (C c)
+C-bytes c = let k = stepped c in lastBytes-digits (f k) (f-block k) (delta k) (delta-block k) (n k) (some k) (M-bytes k)
 
 last-step-requires : tie.Need-last-step-requires
 last-step-requires c κs = (search needs, of (c .before .before))
 
+keys-for-requires : tie.Need-keys-for-requires
+keys-for-requires c κs = let k = stepped (c .before .before .before) in (few k, of k)
+
 halves-of-requires : tie.Need-halves-of-requires
-halves-of-requires c κs = search needs
-
-turns-down-requires : tie.Need-turns-down-requires
-turns-down-requires c κs = (search needs, of (taken (c .before .before .before .before .before)))
-
-put-joined-requires : tie.Need-put-joined-requires
-put-joined-requires c κs = search needs
-
-same-length : tie.Need-same-length
-same-length c = search needs
+halves-of-requires c κs =
+    let fr = c .before in
+    let l = at-last (fr .before) in
+    (search needs, fr .front .ensures ∙ ap (λ (k : ℕ). columnsOf (front k)) (sym (ap length (l .last-step .ensures) ∙ C-bytes l .len)))
 
 returns : tie.Need-returns
 returns c =
     let p = c .before .before in
     let t = at-turns p in
-    let l = at-last t in
-    let delta = known (taken l) .before .args .delta in
-    let n : ℕ = length (M l) in
-    let some : 1 ≤ n = known (taken l) .before .pre .1 in
-    let few : n ≤ 31 = known (taken l) .before .pre .2 in
+    let fr = at-front t in
+    let keys = fr .before in
+    let l = at-last keys in
+    let k = stepped l in
+    let Ks = map blockOf (keys .keys-for .result) in
     let both = t .before .before .halves-of in
-    let long = ap length (l .last-step .ensures) ∙ lastBytes-digits (f l) (f-block l) delta (delta-block l) n some (M-bytes l) .len in
-    all-turns (halfTurnsDown (f l) delta n (tinyIndex (8 * n)) (tinyRounds (8 * n))) n (both .result) (t .turns-down .result) (l .last-step .ensures) long (both .ensures) (t .turns-down .ensures) (p .put-joined .ensures)
-    ∙ sym (decipherTiny-halfBytes (f l) (f-block l) delta (delta-block l) n some few (M l) (M-bytes l))
-    ∙ ap (λ (K : figure6.Key). decipherTiny (E K) delta (M l)) (is-base (taken l))
+    all-turns (f k) (f-block k) (delta k) (delta-block k) (n k) (few k) Ks (under keys) (bits-are fr) (down (tinyRounds (8 * n k)))
+    (blocksOf (both .result)) (blocksOf (t .turns-down .result)) (subst⁻¹ (Digits 8 (n k)) (l .last-step .ensures) (C-bytes l)) (both .ensures)
+    (t .turns-down .ensures ∙ down-through Ks (blockOf (fr .front .result)) (tinyRounds (8 * n k)) (blocksOf (both .result)))
+    (p .put-joined .ensures)
+    ∙ ap (halfTurns (f k) (delta k) (n k) (down (tinyRounds (8 * n k)))) (l .last-step .ensures)
+    ∙ sym (decipherTiny-halfBytes (f k) (f-block k) (delta k) (delta-block k) (n k) (some k) (few k) (M k) (M-bytes k))
+    ∙ ap (λ (K : figure6.Key). decipherTiny (E K) (delta k) (M k)) (is-base k)
 
 pub decipher-spec : {M : Type 1} → statement M
 decipher-spec =
     tie.close
     (tie.spec
-    base-requires
-    multiples-requires
+    (λ c κs. search needs)
+    (λ c κs. search needs)
     last-step-requires
+    keys-for-requires
+    (λ c κs. search needs)
     halves-of-requires
-    turns-down-requires
-    put-joined-requires
-    same-length
+    (λ c κs. search needs)
+    (λ c κs. search needs)
+    (λ c. search needs)
     returns)

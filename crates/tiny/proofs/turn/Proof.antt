@@ -1,32 +1,38 @@
 -- `tiny::turn` meets its contract.
-use Prim.Native.Nat.{_*_}
+use mathlib.Core.List.{[], _∷_, map}
+use mathlib.Core.Path.{ap, _∙_}
 use borrow.Author.Needs.{needs}
-use lib.ListN.{take}
-use Rattle.paper.specs.Figure6.{E}
-use Rattle.paper.specs.Figure5.{tinyIndex}
-use Rattle.tbc.specs.Meaning.{base}
-use Rattle.tiny.proofs.AllTurns.{one-turn}
+use Rattle.paper.specs.Strings.{Bytes, _⊕_, _and_}
+use Rattle.paper.specs.Section7.{AES4}
+use Rattle.laws.proofs.Digits.{⊕-block}
+use Rattle.columns.specs.Columns.{blockOf}
+use Rattle.columns.proofs.Conversions.{made, blockOf-block}
+use Rattle.aes.proofs.Blocks.{AES-columns}
+use Rattle.tiny.specs.Blocks.{blockTurn}
+use Rattle.tiny.proofs.ColumnBits.{and-block, number-column}
 use Rattle.tiny.proofs.turn.Statement.{statement}
 use Rattle.tiny.proofs.turn.Tie as tie
 
-abbrev start : tie.After-e-of-turn → tie.Start
-start c = c .before .before .before
-
-e-of-turn-requires : tie.Need-e-of-turn-requires
-e-of-turn-requires c κs = search needs
-
-slice-aggregate-add : tie.Need-slice-aggregate-add
-slice-aggregate-add c = search needs
-
-add-requires : tie.Need-add-requires
-add-requires c κs = search needs
-
 returns : tie.Need-returns
+unfolding blockTurn
 returns c =
-    let at-e = c .before .before in
-    let a = start at-e .args in
-    one-turn (E (base (a .k))) (a .delta) (a .n) (tinyIndex (8 * a .n)) (a .i) (take (a .n) (a .s .l)) (take (a .n) (a .s .r)) _ _
-    (at-e .e-of-turn .ensures) (c .add .ensures)
+    let at-and = c .before in
+    let at-aes = at-and .before in
+    let at-x = at-aes .before in
+    let s = at-x .before .before .before in
+    let a = s .args in
+    let keys = a .keys .now in
+    let number-block = blockOf-block (0 ∷ 0 ∷ 0 ∷ a .i ∷ []) in
+    let x =
+    made (⊕-block (blockOf-block (a .s .r)) number-block) (at-x .xor .ensures)
+    ∙ ap (λ (N : Bytes). blockOf (a .s .r) ⊕ N) (number-column (a .i) (s .fits .i .fits)) in
+    let y = made (AES-columns keys (blockOf-block (at-x .xor .result))) (at-aes .aes4-columns .ensures) ∙ ap (AES4 (map blockOf keys)) x in
+    let kept =
+    made (and-block (blockOf-block (at-aes .aes4-columns .result)) (blockOf-block (a .bits))) (at-and .and .ensures)
+    ∙ ap (λ (Y : Bytes). Y and blockOf (a .bits)) y in
+    ap (λ (R : Bytes). record { L = blockOf (a .s .r); R = R })
+    (made (⊕-block (blockOf-block (a .s .l)) (blockOf-block (at-and .and .result))) (c .xor2 .ensures) ∙ ap (λ (K : Bytes). blockOf (a .s .l) ⊕ K) kept)
 
 pub turn-spec : {M : Type 1} → statement M
-turn-spec = tie.close (tie.spec e-of-turn-requires slice-aggregate-add add-requires returns)
+turn-spec =
+    tie.close (tie.spec (λ c κs. search needs) (λ c κs. search needs) (λ c κs. search needs) (λ c κs. search needs) returns)

@@ -1,23 +1,21 @@
 -- `tiny::turns_down` meets its contract. The invariant: the turns that are left make of t what all turns make of s.
+use mathlib.Core.List.{map}
 use mathlib.Core.Path.{_≡_, refl, ap, _∙_}
-use Prim.Native.Nat.{ℕ, _*_}
+use Prim.Native.Nat.{ℕ}
 use native.Mathlib.Omega.{arith}
 use borrow.Author.Needs.{needs}
-use Rattle.paper.specs.Figure6.{E}
-use Rattle.paper.specs.Figure5.{tinyIndex}
-use Rattle.tbc.specs.Meaning.{base}
-use Rattle.tiny.specs.HalfBytes.{halfTurnsDown}
-use Rattle.tiny.specs.Firsts.{firsts}
+use Rattle.columns.specs.Columns.{blockOf}
+use Rattle.tiny.specs.Blocks.{blocksOf, blockTurnsDown}
 use Rattle.tiny.proofs.AllTurns.{down-none, down-more}
 use Rattle.tiny.proofs.turns_down.Statement.{statement}
 use Rattle.tiny.proofs.turns_down.Tie as tie
 
 abbrev Inv-loop : tie.InvT-loop
-Inv-loop k m delta n t₀ left₀ t left =
-    halfTurnsDown (E (base k)) delta n (tinyIndex (8 * n)) left (firsts n t) ≡ halfTurnsDown (E (base k)) delta n (tinyIndex (8 * n)) left₀ (firsts n t₀)
+Inv-loop keys bits n t₀ left₀ t left =
+    blockTurnsDown (map blockOf keys) (blockOf bits) left (blocksOf t) ≡ blockTurnsDown (map blockOf keys) (blockOf bits) left₀ (blocksOf t₀)
 
 abbrev μ-loop : tie.MeasureT-loop
-μ-loop k m delta n t₀ left₀ t left = left
+μ-loop keys bits n t₀ left₀ t left = left
 
 abbrev start : tie.At-loop Inv-loop μ-loop → tie.Start Inv-loop μ-loop
 start c = c .before .before
@@ -41,19 +39,19 @@ loop-again : tie.Need-loop-again Inv-loop μ-loop
 loop-again c =
     let k = c .before .before in
     let a = start k .args in
-    down-more (E (base (a .k))) (a .delta) (a .n) (tinyIndex (8 * a .n)) (k .loop .left) (firsts (a .n) (k .loop .t)) _ _ (c .before .loop-test .taken) (k .loop .inv) (c .turn .ensures)
+    down-more (map blockOf (a .keys .now)) (blockOf (a .bits)) (k .loop .left) (blocksOf (k .loop .t)) _ _ (c .before .loop-test .taken) (k .loop .inv) (c .turn .ensures)
 
 returns : tie.Need-returns Inv-loop μ-loop
 returns c =
     let k = c .before in
     let a = start k .args in
-    let f = E (base (a .k)) in
-    let j : ℕ = tinyIndex (8 * a .n) in
+    let Ks = map blockOf (a .keys .now) in
+    let M = blockOf (a .bits) in
     let done : 0 ≡ k .loop .left = omega arith in
-    down-none f (a .delta) (a .n) j (firsts (a .n) (k .loop .t)) _
-    (ap (λ (i : ℕ). halfTurnsDown f (a .delta) (a .n) j i (firsts (a .n) (k .loop .t))) done
+    down-none Ks M (blocksOf (k .loop .t)) _
+    (ap (λ (i : ℕ). blockTurnsDown Ks M i (blocksOf (k .loop .t))) done
     ∙ k .loop .inv
-    ∙ ap (λ (i : ℕ). halfTurnsDown f (a .delta) (a .n) j i (firsts (a .n) (a .s))) (k .before .rounds .ensures))
+    ∙ ap (λ (i : ℕ). blockTurnsDown Ks M i (blocksOf (a .s))) (k .before .rounds .ensures))
 
 pub turns-down-spec : {M : Type 1} → statement M
 turns-down-spec =

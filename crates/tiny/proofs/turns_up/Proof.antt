@@ -1,22 +1,20 @@
 -- `tiny::turns_up` meets its contract. The invariant: t is s after the turns below i.
+use mathlib.Core.List.{map}
 use mathlib.Core.Path.{_≡_, ap, _∙_}
-use Prim.Native.Nat.{ℕ, _-_, _*_, _≤_}
+use Prim.Native.Nat.{ℕ, _-_, _≤_}
 use native.Mathlib.Omega.{arith}
 use borrow.Author.Needs.{needs}
-use Rattle.paper.specs.Figure6.{E}
-use Rattle.paper.specs.Figure5.{tinyIndex}
-use Rattle.tbc.specs.Meaning.{base}
-use Rattle.tiny.specs.HalfBytes.{halfTurnsUp}
-use Rattle.tiny.specs.Firsts.{firsts}
+use Rattle.columns.specs.Columns.{blockOf}
+use Rattle.tiny.specs.Blocks.{blocksOf, blockTurnsUp}
 use Rattle.tiny.proofs.AllTurns.{up-none, up-more}
 use Rattle.tiny.proofs.turns_up.Statement.{statement}
 use Rattle.tiny.proofs.turns_up.Tie as tie
 
 abbrev Inv-loop : tie.InvT-loop
-Inv-loop k m delta n count t₀ i₀ t i = (i ≤ count) × (firsts n t ≡ halfTurnsUp (E (base k)) delta n (tinyIndex (8 * n)) i (firsts n t₀))
+Inv-loop keys bits n count t₀ i₀ t i = (i ≤ count) × (blocksOf t ≡ blockTurnsUp (map blockOf keys) (blockOf bits) i (blocksOf t₀))
 
 abbrev μ-loop : tie.MeasureT-loop
-μ-loop k m delta n count t₀ i₀ t i = count - i
+μ-loop keys bits n count t₀ i₀ t i = count - i
 
 abbrev start : tie.At-loop Inv-loop μ-loop → tie.Start Inv-loop μ-loop
 start c = c .before .before
@@ -25,9 +23,7 @@ rounds-requires : tie.Need-rounds-requires Inv-loop μ-loop
 rounds-requires c κs = search needs
 
 loop-holds : tie.Need-loop-holds Inv-loop μ-loop
-loop-holds c =
-    let a = c .before .args in
-    (omega arith, up-none (E (base (a .k))) (a .delta) (a .n) (tinyIndex (8 * a .n)) (firsts (a .n) (a .s)))
+loop-holds c = let a = c .before .args in (omega arith, up-none (map blockOf (a .keys .now)) (blockOf (a .bits)) (blocksOf (a .s)))
 
 turn-requires : tie.Need-turn-requires Inv-loop μ-loop
 turn-requires c κs = search needs
@@ -42,7 +38,7 @@ loop-again : tie.Need-loop-again Inv-loop μ-loop
 loop-again c =
     let k = c .before .before in
     let a = start k .args in
-    (omega arith, up-more (E (base (a .k))) (a .delta) (a .n) (tinyIndex (8 * a .n)) (k .loop .i) (firsts (a .n) (a .s)) _ _ (k .loop .inv .1) (c .turn .ensures))
+    (omega arith, up-more (map blockOf (a .keys .now)) (blockOf (a .bits)) (k .loop .i) (blocksOf (a .s)) _ _ (k .loop .inv .1) (c .turn .ensures))
 
 returns : tie.Need-returns Inv-loop μ-loop
 returns c =
@@ -50,7 +46,7 @@ returns c =
     let a = start k .args in
     let done : k .loop .i ≡ k .before .rounds .result = omega arith in
     k .loop .inv .1
-    ∙ ap (λ (i : ℕ). halfTurnsUp (E (base (a .k))) (a .delta) (a .n) (tinyIndex (8 * a .n)) i (firsts (a .n) (a .s))) (done ∙ k .before .rounds .ensures)
+    ∙ ap (λ (i : ℕ). blockTurnsUp (map blockOf (a .keys .now)) (blockOf (a .bits)) i (blocksOf (a .s))) (done ∙ k .before .rounds .ensures)
 
 pub turns-up-spec : {M : Type 1} → statement M
 turns-up-spec =

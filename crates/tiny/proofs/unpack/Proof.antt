@@ -1,37 +1,47 @@
--- `tiny::unpack` meets its contract: what is added to zeros.
-use mathlib.Core.List.{List}
-use mathlib.Core.Path.{_≡_, ap, sym, _∙_}
-use Prim.Native.Nat.{ℕ, _+_, _-_, _≤_}
+-- `tiny::unpack` meets its contract. The invariant: the first i entries are the block's half-bytes.
+use mathlib.Core.Path.{_≡_, refl, sym, _∙_}
+use Prim.Native.Nat.{_-_, _≤_}
 use native.Mathlib.Omega.{arith}
 use borrow.Author.Needs.{needs}
-use lib.ListN.{length, take, drop, replicate, length-replicate, length-drop, replicate-append-replicate}
-use lib.Seq.{take-at, length-take-le}
-use Rattle.paper.specs.Strings.{_⊕_}
-use Rattle.laws.proofs.Strings.{⊕-comm, ⊕-zeros}
+use lib.ListN.{length}
+use Rattle.laws.proofs.Fronts.{Front, front-more, front-all}
 use Rattle.tiny.specs.HalfBytes.{halfBytes}
 use Rattle.tiny.proofs.ByteHalves.{length-halfBytes}
 use Rattle.tiny.proofs.unpack.Statement.{statement}
 use Rattle.tiny.proofs.unpack.Tie as tie
 
-first-zeros : (n k : ℕ) → n ≤ k → take {A = ℕ} n (replicate k 0) ≡ replicate n 0
-first-zeros n k h =
-    let e : n + (k - n) ≡ k = omega arith in
-    ap (λ (m : ℕ). take {A = ℕ} n (replicate m 0)) (sym e)
-    ∙ ap (take n) (sym (replicate-append-replicate n (k - n) 0))
-    ∙ take-at (replicate n 0) (replicate (k - n) 0) n (length-replicate n 0)
+abbrev Inv-loop : tie.InvT-loop
+Inv-loop x h₀ i₀ h i = (i ≤ 32) × Front (halfBytes x) h i
 
-to-zeros : (n k : ℕ) (X R : List ℕ) → n ≤ k → length X ≤ n → R ≡ take n (replicate k 0) ⊕ X → R ≡ X
-to-zeros n k X R h g e = e ∙ ap (λ (Z : List ℕ). Z ⊕ X) (first-zeros n k h) ∙ ⊕-comm (replicate n 0) X ∙ ⊕-zeros n X g
+abbrev μ-loop : tie.MeasureT-loop
+μ-loop x h₀ i₀ h i = 32 - i
 
-add-requires : tie.Need-add-requires
-add-requires c κs = search needs
+-- 16 bytes have 32 half-bytes
+long : (c : tie.Start Inv-loop μ-loop) → length (halfBytes (c .args .t1)) ≡ 32
+long c = let sixteen : length (c .args .t1) ≡ 16 = search needs in omega (arith, length-halfBytes (c .args .t1))
 
-returns : tie.Need-returns
-returns c =
-    let a = c .before .before .args in
-    let H : List ℕ = drop (a .at) (halfBytes (a .s .now)) in
-    let long : length (take (a .n) H) ≡ a .n = length-take-le (a .n) H (omega (arith, length-drop (a .at) (halfBytes (a .s .now)), length-halfBytes (a .s .now))) in
-    to-zeros (a .n) 32 (take (a .n) H) _ (omega arith) (omega arith) (c .add .ensures)
+loop-holds : tie.Need-loop-holds Inv-loop μ-loop
+loop-holds c = (omega arith, record { long = sym (long c); same = refl })
+
+loop-again : tie.Need-loop-again Inv-loop μ-loop
+loop-again c =
+    let k = c .before .before .before in
+    (omega arith, front-more _ (k .loop .inv .1) (omega (arith, long (k .before))) (c .half-byte .ensures))
+
+returns : tie.Need-returns Inv-loop μ-loop
+returns c = front-all (c .before .loop .inv .1) (long (c .before .before) ∙ omega arith)
 
 pub unpack-spec : {M : Type 1} → statement M
-unpack-spec = tie.close (tie.spec add-requires returns)
+unpack-spec =
+    tie.close
+    (tie.spec
+    Inv-loop
+    μ-loop
+    loop-holds
+    (λ c. search needs)
+    (λ c κs. search needs)
+    (λ c. search needs)
+    (λ c. search needs)
+    (λ c. search needs)
+    loop-again
+    returns)
