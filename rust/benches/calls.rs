@@ -1,113 +1,78 @@
-//! How long a call takes: the proved library beside the second program, and
-//! beside software AES-128-CTR of BearSSL on as many bytes of text; reading a day
-//! file beside a copy of it; and reporting on one. Prints tables in Markdown. It
+//! How long a call takes: the proved library beside the second program and AEZ with
+//! T-tables, and beside software AES-128-CTR of BearSSL on as many bytes of text; reading
+//! a day file beside a copy of it; and reporting on one. Prints tables in Markdown. It
 //! needs Debian's libbearssl-dev:
 //!
 //!     cargo bench --features bearssl
 
 mod bearssl;
+mod contenders;
 mod days;
 mod reports;
+mod t_tables;
 mod timing;
 
-use std::hint::black_box;
-
-use bearssl::{Ct64, Small};
-use second::aes::aes128;
-use second::document01;
+use contenders::{compare, opening, sealing, STRETCH};
 use timing::{best_of, machine, Contender, TURNS};
 
+/// The tables' lengths.
 const LENGTHS: [usize; 6] = [5, 31, 64, 1_024, 4_096, 65_472];
-const STRETCH: u64 = 4;
-/// The strings 01, "n7", no bytes, "de".
-const HEADER: &[u8] = b"\x04\x00\x01\x01\x00\x02n7\x00\x00\x00\x02de";
+/// More lengths to compare.
+const COMPARED: [usize; 14] = [0, 1, 15, 16, 17, 31, 32, 33, 63, 64, 65, 95, 96, 1_023];
 
 fn main() {
+    compare(&[&LENGTHS[..], &COMPARED].concat());
     println!(
         "Machine: {}. Command: `cargo bench --features bearssl`. Stretch {STRETCH}, a header of \
          four strings, the best of {TURNS} alternating turns. BearSSL is AES-128-CTR on the \
          text alone, its key schedule not counted.\n",
         machine()
     );
-    println!(
-        "| Call | Bytes of text | Proved, ns a call | Proved, ns a byte \
-         | Second program, ns a call | BearSSL small, ns a call | BearSSL ct64, ns a call \
-         | Proved / second program | Proved / BearSSL small |"
-    );
-    println!("|---|--:|--:|--:|--:|--:|--:|--:|--:|");
-    for (length, best) in LENGTHS.into_iter().zip(best_of(LENGTHS.map(contenders))) {
-        print_lines(length, best);
-    }
+    print_calls();
     println!();
     days::print();
     println!();
     reports::print();
 }
 
-/// The table's two lines for texts of this length.
-fn print_lines(length: usize, best: [f64; 6]) {
-    let [seal, second_seal, open, second_open, small, ct64] = best;
-    for (call, proved, second) in [("seal", seal, second_seal), ("open", open, second_open)] {
-        println!(
-            "| {call} | {length} | {proved:.0} | {:.1} | {second:.0} | {small:.0} | {ct64:.0} \
-             | {:.2} | {:.2} |",
-            proved / length as f64,
-            proved / second,
-            proved / small,
-        );
+/// The two tables on calls: all times, and the proved library's in other terms.
+fn print_calls() {
+    let best = best_of(TURNS, LENGTHS.map(both_calls));
+    let rows: Vec<(&str, usize, [f64; 7])> = LENGTHS
+        .into_iter()
+        .zip(best)
+        .flat_map(|(length, [a, b, c, big, small, ct, ct64, d, e, f])| {
+            [
+                ("seal", length, [a, b, c, big, small, ct, ct64]),
+                ("open", length, [d, e, f, big, small, ct, ct64]),
+            ]
+        })
+        .collect();
+    println!(
+        "| ns a call | Bytes of text | Proved | Second program | AEZ with T-tables \
+         | BearSSL big | BearSSL small | BearSSL ct | BearSSL ct64 |"
+    );
+    println!("|---|--:|--:|--:|--:|--:|--:|--:|--:|");
+    for (call, length, times) in &rows {
+        let times = times.map(|time| format!("{time:.0}")).join(" | ");
+        println!("| {call} | {length} | {times} |");
+    }
+    println!(
+        "\n| Proved | Bytes of text | ns a byte | / second program | / AEZ with T-tables \
+         | / BearSSL big | / BearSSL small | / BearSSL ct | / BearSSL ct64 |"
+    );
+    println!("|---|--:|--:|--:|--:|--:|--:|--:|--:|");
+    for (call, length, [proved, peers @ ..]) in &rows {
+        let each = proved / *length as f64;
+        let ratios = peers
+            .map(|peer| format!("{:.2}", proved / peer))
+            .join(" | ");
+        println!("| {call} | {length} | {each:.1} | {ratios} |");
     }
 }
 
-/// For texts of this length: sealing by the proved library and by the second
-/// program, opening by both, and BearSSL's two.
-fn contenders(length: usize) -> [Contender; 6] {
-    let key: [u8; 48] = std::array::from_fn(|place| place as u8);
-    let text: Vec<u8> = (0..length).map(|place| place as u8).collect();
-    let sealed = sealed_by_both(&key, &text);
-    let (small, ct64) = yardsticks(key[..16].try_into().expect("16 of 48 bytes"));
-
-    let [mut a, mut b, mut c, mut d]: [Vec<u8>; 4] = std::array::from_fn(|_| vec![0; sealed.len()]);
-    let (mut small_data, mut ct64_data) = (text.clone(), text.clone());
-    let (again, sealed_again) = (text.clone(), sealed.clone());
-    [
-        Box::new(move || {
-            let sealed = jarrovento::seal(black_box(&key), HEADER, STRETCH, &text, &mut a);
-            assert!(black_box(sealed).is_ok());
-        }),
-        Box::new(move || {
-            let answer = document01::seal(black_box(&key), HEADER, STRETCH, &again, &mut b);
-            assert_eq!(black_box(answer).number, 0);
-        }),
-        Box::new(move || {
-            let opened = jarrovento::open(black_box(&key), HEADER, STRETCH, &sealed, &mut c);
-            assert!(black_box(opened).is_ok());
-        }),
-        Box::new(move || {
-            let answer = document01::open(black_box(&key), HEADER, STRETCH, &sealed_again, &mut d);
-            assert_eq!(black_box(answer).number, 0);
-        }),
-        Box::new(move || small.run(black_box(&mut small_data))),
-        Box::new(move || ct64.run(black_box(&mut ct64_data))),
-    ]
-}
-
-/// The sealed string, on which both programs agree.
-fn sealed_by_both(key: &[u8], text: &[u8]) -> Vec<u8> {
-    let mut sealed = vec![0; text.len() + STRETCH as usize];
-    let mut again = sealed.clone();
-    jarrovento::seal(key, HEADER, STRETCH, text, &mut sealed).expect("the text seals");
-    document01::seal(key, HEADER, STRETCH, text, &mut again);
-    assert!(sealed == again, "the two programs seal differently");
-    sealed
-}
-
-/// BearSSL's two ciphers, seen to be AES on the first block that they make.
-fn yardsticks(key: [u8; 16]) -> (Small, Ct64) {
-    let (small, ct64) = (Small::new(&key), Ct64::new(&key));
-    let (mut small_block, mut ct64_block) = ([0; 16], [0; 16]);
-    small.run(&mut small_block);
-    ct64.run(&mut ct64_block);
-    let expected = aes128(key, [0; 16]);
-    assert_eq!([small_block, ct64_block], [expected; 2]);
-    (small, ct64)
+fn both_calls(length: usize) -> [Contender; 10] {
+    let [a, b, c, big, small, ct, ct64] = sealing(length);
+    let [d, e, f] = opening(length);
+    [a, b, c, big, small, ct, ct64, d, e, f]
 }

@@ -74,7 +74,7 @@ fn main() {
     );
     println!("|---|--:|--:|--:|--:|--:|--:|--:|--:|--:|--:|");
     let files: [Vec<u8>; 12] = std::array::from_fn(|row| file(&KINDS[row / 3], PARTS[row % 3]));
-    let best = best_of(files.each_ref().map(|file| contenders(file)));
+    let best = best_of(TURNS, files.each_ref().map(|file| contenders(file)));
     for ((row, file), times) in files.iter().enumerate().zip(best) {
         let (headers, records) = counts(file);
         let times = times.map(|nanoseconds| format!("{:.1}", nanoseconds / 1_000.0));

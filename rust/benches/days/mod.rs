@@ -6,7 +6,7 @@ use std::hint::black_box;
 use jarrovento::{Day, DayWriter, LONGEST_DAY};
 use second::day_file;
 
-use crate::timing::{best_of, Contender};
+use crate::timing::{best_of, Contender, TURNS};
 
 /// Of files of the same kind one is full, one has a quarter of its parts and one a
 /// sixteenth.
@@ -27,7 +27,7 @@ pub fn print() {
     );
     println!("|---|--:|--:|--:|--:|--:|--:|--:|--:|");
     let files: [File; 9] = std::array::from_fn(|row| file(row / 3, PARTS[row % 3]));
-    let best = best_of(files.each_ref().map(contenders));
+    let best = best_of(TURNS, files.each_ref().map(contenders));
     for (file, [check, list, walk, second, copy]) in files.iter().zip(best) {
         let length = file.bytes.len();
         let records = Day::count(&file.bytes).expect("the file reads");

@@ -7,7 +7,8 @@ use std::hint::black_box;
 use jarrovento::{DayWriter, LONGEST_DAY};
 use second::ledger;
 
-use crate::{best_of, Contender, HEADER, STRETCH};
+use crate::contenders::{HEADER, STRETCH};
+use crate::timing::{best_of, Contender, TURNS};
 
 /// Of files of the same kind one is full, one has a quarter of its parts and one a
 /// sixteenth.
@@ -31,7 +32,7 @@ pub fn print() {
     );
     println!("|---|--:|--:|--:|--:|--:|--:|");
     let files: [File; 12] = std::array::from_fn(|row| file(row / 3, PARTS[row % 3]));
-    let best = best_of(files.each_ref().map(contenders));
+    let best = best_of(TURNS, files.each_ref().map(contenders));
     for (file, [report, second]) in files.iter().zip(best) {
         let length = file.bytes.len();
         let [each, second] = [report, second].map(|call| call / length as f64);

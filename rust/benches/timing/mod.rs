@@ -2,8 +2,7 @@
 
 use std::time::{Duration, Instant};
 
-/// Turns of each contender in each row, one after the other, so that a slow spell of
-/// the machine meets all of them. The best turn counts.
+/// How many turns each contender of a table has.
 pub const TURNS: usize = 25;
 /// How long a turn is at least: short, so that some turn of each is undisturbed.
 const TURN: Duration = Duration::from_millis(4);
@@ -11,12 +10,16 @@ const TURN: Duration = Duration::from_millis(4);
 /// What is measured: one call, on its own buffers.
 pub type Contender = Box<dyn FnMut()>;
 
-/// For each contender in each row, the nanoseconds of a call in its best turn.
-pub fn best_of<const L: usize, const N: usize>(contenders: [[Contender; N]; L]) -> [[f64; N]; L] {
+/// For each contender in each row, the nanoseconds of a call in its best turn. All take
+/// a turn one after the other, so that a slow spell of the machine meets all of them.
+pub fn best_of<const L: usize, const N: usize>(
+    turns: usize,
+    contenders: [[Contender; N]; L],
+) -> [[f64; N]; L] {
     let mut contenders =
         contenders.map(|row| row.map(|mut contender| (calls_in_a_turn(&mut contender), contender)));
     let mut best = [[f64::INFINITY; N]; L];
-    for _ in 0..TURNS {
+    for _ in 0..turns {
         let all = contenders.iter_mut().flatten();
         for (best, (calls, contender)) in best.iter_mut().flatten().zip(all) {
             let elapsed = time(contender, *calls);
