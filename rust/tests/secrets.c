@@ -2,7 +2,9 @@
  * reports every branch and every address that depends on one. For each call this prints
  * how often it reported; secrets.rs compiles this, runs it under valgrind and compares.
  * Undefined are the key, the text, the sealed string and the bytes of the header's
- * strings; lengths, the stretch and the header's count are not. */
+ * strings; lengths, the stretch and the header's count are not. With a stretch the header
+ * is the usual one, whose blocks and the stretch's make five; without one it has a fifth
+ * string, and the blocks make nineteen: sixteen together and three by themselves. */
 
 #include <stdio.h>
 #include <string.h>
@@ -10,7 +12,7 @@
 
 #include "aez.h"
 
-enum { LONGEST = 4096, STRETCH = 16 };
+enum { LONGEST = 4096, STRETCH = 16, FIFTH = 224 };
 
 static const uint8_t plain_header[] = {4, 0, 1, 1, 0, 2, 'n', '7', 0, 0, 0, 2, 'd', 'e'};
 
@@ -48,33 +50,40 @@ static void tell(const char *call, size_t length, uint64_t stretch, uint32_t ans
 /* A text of n bytes is sealed, opened, and opened with its last bit damaged. */
 static void round_trip(size_t n, uint64_t stretch)
 {
-    static uint8_t key[48], header[sizeof plain_header], text[LONGEST];
+    static uint8_t key[48], header[sizeof plain_header + 2 + FIFTH], text[LONGEST];
     static uint8_t sealed[LONGEST + STRETCH], opened[LONGEST + STRETCH];
-    size_t length = n + (size_t)stretch;
+    size_t length = n + (size_t)stretch, header_len = sizeof plain_header;
     unsigned before;
     uint32_t answer;
 
     fill(key, sizeof key);
     fill(text, n);
-    memcpy(header, plain_header, sizeof header);
+    memcpy(header, plain_header, header_len);
+    if (stretch == 0) {
+        header[0] = 5;
+        header[header_len] = 0;
+        header[header_len + 1] = FIFTH;
+        fill(header + header_len + 2, FIFTH);
+        header_len += 2 + FIFTH;
+    }
     hide(header + 3, 1);
     hide(header + 6, 2);
     hide(header + 12, 2);
 
     before = (unsigned)VALGRIND_COUNT_ERRORS;
-    answer = aez_seal(key, sizeof key, header, sizeof header, stretch, text, n, sealed, length);
+    answer = aez_seal(key, sizeof key, header, header_len, stretch, text, n, sealed, length);
     tell("seal", n, stretch, answer, before);
 
     hide(sealed, length);
     before = (unsigned)VALGRIND_COUNT_ERRORS;
-    answer = aez_open(key, sizeof key, header, sizeof header, stretch, sealed, length, opened, length);
+    answer = aez_open(key, sizeof key, header, header_len, stretch, sealed, length, opened, length);
     tell("open", n, stretch, answer, before);
 
     if (length == 0)
         return;
     sealed[length - 1] ^= 1;
     before = (unsigned)VALGRIND_COUNT_ERRORS;
-    answer = aez_open(key, sizeof key, header, sizeof header, stretch, sealed, length, opened, length);
+    answer = aez_open(key, sizeof key, header, header_len, stretch, sealed, length, opened, length);
     tell("open damaged", n, stretch, answer, before);
 }
 

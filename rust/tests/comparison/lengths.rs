@@ -1,4 +1,5 @@
-//! Every short length, the lengths around 4,096 and 65,536, and every stretch.
+//! Every short length, the lengths around the ends of full groups, 4,096 and 65,536, and
+//! every stretch.
 
 use support::{header, Source};
 
@@ -34,6 +35,17 @@ fn every_length_to_300() {
         for stretch in [0, 1, 4, 16, 64] {
             there_and_back(&mut source, stretch, length);
         }
+    }
+}
+
+/// The passes take sixteen pairs of blocks at a time. From 544 bytes on there is a full
+/// group, and what is left after one or two of them goes one by one or as a group that is
+/// partly filled; each number of pairs that are left is here, with each length of u and v.
+#[test]
+fn lengths_around_full_groups() {
+    let mut source = Source::new(6);
+    for whole in (512..=700).chain(1_024..=1_248) {
+        there_and_back(&mut source, 4, whole - 4);
     }
 }
 
