@@ -5,11 +5,11 @@ use Prim.Native.Nat.{ℕ, zero, suc, _+_, _-_, _*_, _/_, _≤_}
 use lib.Dec.{ltb}
 use lib.ListN.{length, take, drop}
 use Rattle.paper.specs.Strings.{Bytes, if_then_else_, _⊕_, sum, join}
-use Rattle.paper.specs.Figure6.{row, BlockFunction}
+use Rattle.paper.specs.Figure6.{row, BlockFunction, Key}
 use Rattle.paper.specs.Figure5.{pairs}
 use Rattle.columns.specs.Columns.{columnsOf, blockOf}
 use Rattle.tbc.specs.Meaning.{nextPower}
-use Rattle.groups.specs.Groups.{each, entry}
+use Rattle.groups.specs.Groups.{each, entry, Holds}
 use Rattle.pass.specs.declared.Pass.{Pass}
 use Rattle.pass.specs.declared.Pass.the-variants.{First, Second}
 
@@ -82,6 +82,13 @@ fewest = 4
 
 abbrev pub taken : ℕ → ℕ
 taken left = if ltb left fewest then 1 else (if ltb left 16 then left else 16)
+
+-- w holds the key K, where there is a part P of more than one pair, and where a string of n bytes has as many pairs as make a group
+abbrev pub HoldsBeside : Bytes → Key → List (List ℕ) → Type 0
+HoldsBeside P K w = (length P ≡ 32 → ⊥) → Holds K w
+
+abbrev pub HoldsFor : ℕ → Key → List (List ℕ) → Type 0
+HoldsFor n K w = 32 * (fewest + 1) ≤ n → Holds K w
 
 -- the power of L for b + n, of that for b
 unfoldable pub powerAfter : ℕ → ℕ → List ℕ → List ℕ

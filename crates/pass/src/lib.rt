@@ -12,7 +12,7 @@ ghost use Rattle.paper.specs.Figure6.{row, k0, k1, k2, E};
 ghost use Rattle.columns.specs.Columns.{columnsOf, blockOf};
 ghost use Rattle.tbc.specs.Meaning.{base, OfJ, rowOf, Plain};
 ghost use Rattle.groups.specs.Groups.{each, entry, AES4s, keyFor, Holds};
-ghost use Rattle.pass.specs.Pairs.{firstX, firstPair, secondY, secondPair, summand, newPair, pairSum, paired, WholePairs, partSum, partPaired, xors, taken, powerAfter};
+ghost use Rattle.pass.specs.Pairs.{firstX, firstPair, secondY, secondPair, summand, newPair, pairSum, paired, WholePairs, partSum, partPaired, xors, taken, HoldsBeside, HoldsFor, powerAfter};
 
 // The two passes over the pairs of blocks: line 226, and lines 232 and 233.
 pub enum Pass {
@@ -234,7 +234,7 @@ fn some_pairs(
     sum: [u8; 16],
     part: &mut [u8],
 ) -> [u8; 16]
-    requires { ⌜ (1 ≤ b) × (b ≤ 65536) × WholePairs (now part) × (power ≡ columnsOf (twoTo ((b - 1) / 8) (base k .L))) × OfJ k (now m) × Holds (base k) (now keys) ⌝ }
+    requires { ⌜ (1 ≤ b) × (b ≤ 65536) × WholePairs (now part) × (power ≡ columnsOf (twoTo ((b - 1) / 8) (base k .L))) × OfJ k (now m) × HoldsBeside (now part) (base k) (now keys) ⌝ }
     ensures { λ r. ⌜ (r ≡ partSum (summand (E (base k)) pass sum) b (now (part .entry))) × (now (part .exit) ≡ partPaired (newPair (E (base k)) pass sum) b (now (part .entry))) ⌝ }
 {
     if part.len() == 32 {
@@ -278,7 +278,8 @@ fn power_after(b: u32, n: usize, power: Columns) -> Columns
 }
 
 // A pass over every pair, up to sixteen at a time: the first makes W_1 X_1 .. W_m X_m of M_1 M′_1 .. M_m M′_m and returns the sum of the
-// X_i, the second makes C_1 C′_1 .. C_m C′_m of that, by the sum S, and returns the sum of the Y_i. The rest stays.
+// X_i, the second makes C_1 C′_1 .. C_m C′_m of that, by the sum S, and returns the sum of the Y_i. The rest stays. The keys on planes are
+// read where there are pairs for a group.
 pub fn all_pairs(
     k: tbc::Base,
     m: &[u32; 32],
@@ -287,7 +288,7 @@ pub fn all_pairs(
     sum: [u8; 16],
     s: &mut [u8],
 ) -> [u8; 16]
-    requires { ⌜ (32 ≤ length (now s)) × (length (now s) ≤ 65536) × OfJ k (now m) × Holds (base k) (now keys) ⌝ }
+    requires { ⌜ (32 ≤ length (now s)) × (length (now s) ≤ 65536) × OfJ k (now m) × HoldsFor (length (now s)) (base k) (now keys) ⌝ }
     ensures { λ r. ⌜ (r ≡ pairSum (summand (E (base k)) pass sum) (now (s .entry))) × (now (s .exit) ≡ paired (newPair (E (base k)) pass sum) (now (s .entry))) ⌝ }
 {
     let mut total = [0u8; 16];

@@ -1,3 +1,4 @@
 pub mod Uv
 pub mod Ways
 pub mod Ends
+pub mod Planes

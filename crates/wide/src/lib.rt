@@ -9,6 +9,8 @@ ghost use Rattle.paper.specs.Strings.{_⊕_};
 ghost use Rattle.paper.specs.Figure6.{E};
 ghost use Rattle.paper.specs.Figure5.{core};
 ghost use Rattle.tbc.specs.Meaning.{blocks, base, Kept, OfJ};
+ghost use Rattle.pass.specs.Pairs.{HoldsFor};
+ghost use Rattle.wide.specs.Planes.{keysFor};
 ghost use Rattle.wide.specs.Ways.{firstOf, secondOf, endPairs};
 ghost use Rattle.wide.specs.Ends.{sxOf, syOf, cxOf, cyOf};
 ghost use Rattle.wide.specs.Uv.{withUv, uMasked, vMasked};
@@ -149,6 +151,16 @@ fn put_last(
     pass::put_two(last, cx, cy);
 }
 
+// I, J and L on planes, for a string of n bytes: zeros where it has fewer pairs than make a group, and nobody reads them.
+fn keys_for(k: tbc::Base, n: usize) -> groups::Keys
+    ensures { λ r. ⌜ (HoldsFor n (base k) r) × (r ≡ keysFor n (base k)) ⌝ }
+{
+    if n < 160 {
+        return [[0u64; 32]; 3];
+    }
+    groups::keys(k)
+}
+
 // Lines 220 to 240, in place: s becomes AEZ-core of it.
 pub fn core_in_place(k: tbc::Key, delta: [u8; 16], way: Way, s: &mut [u8])
     requires { ⌜ (Kept k) × (32 ≤ length (now s)) × (length (now s) ≤ 65536) ⌝ }
@@ -156,8 +168,8 @@ pub fn core_in_place(k: tbc::Key, delta: [u8; 16], way: Way, s: &mut [u8])
 {
     let b = k.base();
     let m = k.multiples();
-    let keys = groups::keys(b);
     let n = s.len();
+    let keys = keys_for(b, n);
     let at = 32 * (n / 32 - 1);
     let last = at + n % 32;
     let first = pass::all_pairs(b, &m, &keys, pass::Pass::First, [0u8; 16], s);

@@ -10,10 +10,10 @@ use Rattle.laws.proofs.Multiples.{twoTo-zero}
 use Rattle.columns.specs.Columns.{columnsOf}
 use Rattle.tbc.specs.Meaning.{base}
 use Rattle.tbc.proofs.Keys.{base-bytes}
-use Rattle.pass.specs.Pairs.{summand, newPair}
+use Rattle.pass.specs.Pairs.{summand, newPair, fewest}
 use Rattle.pass.proofs.Passes.{Passed, begun, passed-more, passed-all}
 use Rattle.pass.proofs.Powers.{power-after}
-use Rattle.pass.proofs.Turns.{Fits, taken-fits, room}
+use Rattle.pass.proofs.Turns.{Fits, taken-fits, taken-group, room}
 use Rattle.pass.proofs.all_pairs.Statement.{statement}
 use Rattle.pass.proofs.all_pairs.Tie as tie
 
@@ -96,13 +96,26 @@ part-some-pairs-start c = search needs
 part-some-pairs-end : tie.Need-part-some-pairs-end Inv-loop μ-loop
 part-some-pairs-end c = omega (arith, there c)
 
+-- where a turn takes more than one pair, the string has enough for a group
+grouped : (c : tie.After-taken Inv-loop μ-loop) → (length (take (size c) (drop (c .before .before .loop .at) (c .before .before .loop .s))) ≡ 32 → ⊥)
+    → 32 * (fewest + 1) ≤ length (start (c .before .before) .args .s .now)
+grouped c more =
+    let l = c .before .before .loop in
+    let left : ℕ = (length (l .s) - l .at) / 32 - 1 in
+    let several : 2 ≤ c .taken .result = several-of (c .taken .result) (fits c .from1) (λ one. more (long c ∙ ap (λ (n : ℕ). 32 * n) one)) in
+    let enough : fewest ≤ left = taken-group left (c .taken .result) (c .taken .ensures) several in
+    omega (arith, enough, l .inv .0 .replaced .same)
+  where
+    several-of : (n : ℕ) → 1 ≤ n → (n ≡ 1 → ⊥) → 2 ≤ n
+    several-of n h ne = omega arith
+
 some-pairs-requires : tie.Need-some-pairs-requires Inv-loop μ-loop
 some-pairs-requires c κs =
     let t : tie.After-taken Inv-loop μ-loop = c .before in
     let at : tie.At-loop Inv-loop μ-loop = t .before .before in
     let s = start at in
     let l = at .loop in
-    (l .inv .0 .from1, omega (arith, number at), (omega (arith, long t), omega (arith, long t, fits t .few)), l .inv .1, s .pre .2, s .pre .3)
+    (l .inv .0 .from1, omega (arith, number at), (omega (arith, long t), omega (arith, long t, fits t .few)), l .inv .1, s .pre .2, λ more. s .pre .3 (grouped t more))
 
 xor-requires : tie.Need-xor-requires Inv-loop μ-loop
 xor-requires c κs = search needs

@@ -30,7 +30,9 @@ returns c =
     )
 
 one-group-requires : tie.Need-one-group-requires
-one-group-requires c κs = search needs
+one-group-requires c κs =
+    let s : tie.Start = c .before .before .before in
+    (s .pre .0, s .pre .1, s .pre .2, s .pre .3, s .pre .4, s .pre .5 (c .before .if1 .left))
 
 same-length-2 : tie.Need-same-length-2
 same-length-2 c = search needs

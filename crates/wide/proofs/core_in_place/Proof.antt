@@ -25,7 +25,7 @@ use Rattle.wide.proofs.core_in_place.Tie as tie
 abbrev begun : tie.After-multiples → tie.After-slice-known
 begun c = c .before .before
 
-abbrev keyed : tie.After-all-pairs → tie.After-keys
+abbrev keyed : tie.After-all-pairs → tie.After-keys-for
 keyed c = c .before .before .before .before
 
 abbrev taken : tie.After-all-pairs → tie.After-multiples
@@ -104,8 +104,8 @@ base-requires c κs = search needs
 multiples-requires : tie.Need-multiples-requires
 multiples-requires c κs = search needs
 
-keys-requires : tie.Need-keys-requires
-keys-requires c κs = search needs
+keys-for-requires : tie.Need-keys-for-requires
+keys-for-requires c κs = search needs
 
 sub-at : tie.Need-sub-at
 sub-at c = search needs
@@ -118,8 +118,8 @@ add-last c = search needs
 
 all-pairs-requires : tie.Need-all-pairs-requires
 all-pairs-requires c κs =
-    let k : tie.After-keys = c .before .before .before in
-    (omega arith, omega arith, of (k .before), k .keys .ensures .0)
+    let k : tie.After-keys-for = c .before .before .before in
+    (omega arith, omega arith, of (k .before), k .keys-for .ensures .0)
 
 sub-with-uv : tie.Need-sub-with-uv
 sub-with-uv c = search needs
@@ -161,7 +161,7 @@ all-pairs-requires-2 : tie.Need-all-pairs-requires-2
 all-pairs-requires-2 c κs =
     let m : tie.After-mask-uv = c .before .before .before .before .before in
     let s = start m in
-    (omega (arith, masked-long m, s .pre .1), omega (arith, masked-long m, s .pre .2), of (taken (passed m)), keyed (passed m) .keys .ensures .0)
+    (omega (arith, masked-long m, s .pre .1), omega (arith, masked-long m, s .pre .2), of (taken (passed m)), λ long. keyed (passed m) .keys-for .ensures .0 (omega (arith, masked-long m)))
 
 sub-with-uv-2 : tie.Need-sub-with-uv-2
 sub-with-uv-2 c = search needs
@@ -235,7 +235,7 @@ core-in-place-spec =
     (tie.spec
     base-requires
     multiples-requires
-    keys-requires
+    keys-for-requires
     sub-at
     mul-at
     add-last
