@@ -1,2 +1,3 @@
-mod Words
+mod Shifts
+mod Lanes
 pub mod Blocks

@@ -1,6 +1,6 @@
 -- Every public function of every crate is determined by its contract: any two results that the contract allows for the same arguments are
 -- equal, and so are any two contents of the lent buffer at exit. Where the contract speaks of what the words of a result mean, as in
--- `circuit`, `sixteen` and `strings`, that meaning is what is determined. `Learnt` is a function's contract as its callers have it: the checker
+-- `circuit`, `sub_bytes`, `sixteen` and `strings`, that meaning is what is determined. `Learnt` is a function's contract as its callers have it: the checker
 -- makes it from the `ensures` in the source. In each theorem κs are lifetimes, a the arguments, z and w two results, e and f the
 -- parameters at two exits.
 use mathlib.Core.List.{List, [], map}
@@ -30,6 +30,7 @@ use Rattle.tbc.specs.declared.Key.{Key}
 use Rattle.tbc.specs.Meaning.{blocks, Kept}
 use Rattle.multiples.specs.Eight.{multiples}
 use Rattle.circuit.specs.Planes.{lane}
+use Rattle.sub_bytes.specs.Planes.{crossedBytes}
 use Rattle.planes.specs.Planes.{planeBlock, upTo}
 use Rattle.strings.specs.Waiting.{soFar}
 use Rattle.block.proofs.xor.Reads as block-xor
@@ -50,7 +51,8 @@ use Rattle.columns.proofs.to_block.Reads as columns-to-block
 use Rattle.columns.proofs.xor.Reads as columns-xor
 use Rattle.columns.proofs.double.Reads as columns-double
 use Rattle.sub_bytes.proofs.sub_bytes.Reads as sub-bytes-sub-bytes
-use Rattle.aes.proofs.aesenc.Reads as aes-aesenc
+use Rattle.sub_bytes.proofs.crossed.Reads as sub-bytes-crossed
+use Rattle.tbc.proofs.keys0.Reads as tbc-keys0
 use Rattle.aes.proofs.aes4.Reads as aes-aes4
 use Rattle.aes.proofs.aes10.Reads as aes-aes10
 use Rattle.multiples.proofs.multiples.Reads as multiples-multiples
@@ -319,14 +321,13 @@ sixteen-rounds4-determined κs a z w e f p q = one p q
 
 -- ---- SubBytes: `sub_bytes`
 
-pub sub-bytes-sub-bytes-determined : (κs : _) (a : _) (z w : _) (e f : _)
-    → sub-bytes-sub-bytes.Learnt κs a z e → sub-bytes-sub-bytes.Learnt κs a w f → z ≡ w
+pub sub-bytes-sub-bytes-determined : (κs : _) (a : _) (z w : _) (e f : _) → sub-bytes-sub-bytes.Learnt κs a z e → sub-bytes-sub-bytes.Learnt κs a w f → crossedBytes z ≡ crossedBytes w
 sub-bytes-sub-bytes-determined κs a z w e f p q = one p q
 
--- ---- The AES round: `aes`
+pub sub-bytes-crossed-determined : (κs : _) (a : _) (z w : _) (e f : _) → sub-bytes-crossed.Learnt κs a z e → sub-bytes-crossed.Learnt κs a w f → z ≡ w
+sub-bytes-crossed-determined κs a z w e f p q = one p q
 
-pub aes-aesenc-determined : (κs : _) (a : _) (z w : _) (e f : _) → aes-aesenc.Learnt κs a z e → aes-aesenc.Learnt κs a w f → z ≡ w
-aes-aesenc-determined κs a z w e f p q = one p q
+-- ---- The AES round: `aes`
 
 pub aes-aes4-determined : (κs : _) (a : _) (z w : _) (e f : _) → aes-aes4.Learnt κs a z e → aes-aes4.Learnt κs a w f → z ≡ w
 aes-aes4-determined κs a z w e f p q = one p q
@@ -385,6 +386,9 @@ tbc-base-blocks-determined κs a z w e f p q = one p q
 
 pub tbc-running-mask-determined : (κs : _) (a : _) (z w : _) (e f : _) → tbc-running-mask.Learnt κs a z e → tbc-running-mask.Learnt κs a w f → z ≡ w
 tbc-running-mask-determined κs a z w e f p q = one p q
+
+pub tbc-keys0-determined : (κs : _) (a : _) (z w : _) (e f : _) → tbc-keys0.Learnt κs a z e → tbc-keys0.Learnt κs a w f → z ≡ w
+tbc-keys0-determined κs a z w e f p q = one p q
 
 pub tbc-keys-adding-determined : (κs : _) (a : _) (z w : _) (e f : _) → tbc-keys-adding.Learnt κs a z e → tbc-keys-adding.Learnt κs a w f → z ≡ w
 tbc-keys-adding-determined κs a z w e f p q = one p q

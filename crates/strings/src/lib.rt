@@ -1,7 +1,6 @@
 // The strings of a tweak: lines 303 to 306 of Figure 6 of the AEZ paper. Their blocks go through AES4 sixteen at a time.
 use columns::Columns;
 use groups::Group;
-ghost use mathlib.Core.List.{map};
 ghost use mathlib.Core.Path.{_≡_};
 ghost use Prim.Native.Nat.{_*_, _/_, _%_, _≤_, _<_};
 ghost use lib.ListN.{length};
@@ -33,21 +32,12 @@ pub fn nothing() -> Sum
     }
 }
 
-// Line 402: k0.
-fn keys0(k: tbc::Base) -> [Columns; 5]
-    ensures { λ r. ⌜ map blockOf r ≡ k0 (base k) ⌝ }
-{
-    let z = [0u32; 4];
-    let b = k.blocks();
-    [z, b[0], b[1], b[2], z]
-}
-
 // The first n blocks of a group, each by itself.
 fn one_by_one(k: tbc::Base, g: &Group, n: usize) -> [u8; 16]
     requires { ⌜ n ≤ 16 ⌝ }
     ensures { λ r. ⌜ r ≡ addedUp (k0 (base k)) (now (g .entry)) n ⌝ }
 {
-    let keys = keys0(k);
+    let keys = tbc::keys0(k, [0u32; 4]);
     let mut total = [0u8; 16];
     let mut i: usize = 0;
     while i < n {

@@ -1,2 +1,2 @@
-mod Moves
-mod States
+pub mod Moves
+pub mod States

@@ -1,8 +1,9 @@
--- A state by the bits of its columns and by those of its planes: the words turned over take one to the other, and back.
+-- A state by the bits of its columns, of its crossed words and of its planes: turning over takes one to the other, and back.
 use mathlib.Core.List.{List, [], _∷_}
 use mathlib.Core.Path.{_≡_, refl, ap, sym, fun-ext, _∙_}
-use Prim.Native.Nat.{ℕ, zero, suc, _+_, _-_, _*_, _/_, _%_, _<_}
+use Prim.Native.Nat.{ℕ, _+_, _-_, _*_, _/_, _%_, _<_}
 use native.Mathlib.Omega.{arith}
+use borrow.Author.Tests.{lt-ltb}
 use lib.Dec.{ltb}
 use lib.ListN.{getD}
 use Rattle.paper.specs.Strings.{Bytes, tabFrom, tab}
@@ -10,8 +11,8 @@ use Rattle.paper.specs.Fips197.{bit, sbox, SubBytes}
 use Rattle.laws.proofs.Tables.{getD-tab}
 use Rattle.columns.specs.Columns.{row3, blockOf}
 use Rattle.circuit.specs.Planes.{lane}
-use Rattle.laws.proofs.WordBits.{number, wordOf, known, either-lt, bit-lt, bit-low, bit-down, number-bits, tab-same}
-use Rattle.sub_bytes.specs.Planes.{crossedBit, crossed, joinedBit, place, planeBytes}
+use Rattle.laws.proofs.WordBits.{number, wordOf, known, either-lt, bit-lt, bit-down, low-bits, number-bits, tab-same}
+use Rattle.sub_bytes.specs.Planes.{crossedBit, crossed, joinedBit, place, planeBytes, crossedBytes}
 use Rattle.sub_bytes.proofs.Moves.{bits-known}
 
 -- ---- a state by its columns
@@ -47,10 +48,10 @@ state-bits s =
     ∷ number-bits 24 8 d i ∷ number-bits 16 8 d i ∷ number-bits 8 8 d i ∷ last-row d i
     ∷ []
 
--- ---- to planes and back
+-- ---- to crossed words and back
 
 -- a state by the bits of its planes
-abbrev byPlanes : (ℕ → ℕ) → (ℕ → ℕ) → (ℕ → ℕ) → (ℕ → ℕ) → (ℕ → ℕ) → (ℕ → ℕ) → (ℕ → ℕ) → (ℕ → ℕ) → Bytes
+abbrev pub byPlanes : (ℕ → ℕ) → (ℕ → ℕ) → (ℕ → ℕ) → (ℕ → ℕ) → (ℕ → ℕ) → (ℕ → ℕ) → (ℕ → ℕ) → (ℕ → ℕ) → Bytes
 byPlanes f0 f1 f2 f3 f4 f5 f6 f7 =
     tab 16
     (λ i.
@@ -64,46 +65,38 @@ turned-bits s w e j h =
     bits-known (getD w j 0) (crossedBit s j) (λ k. bit-lt (getD s (k % 4) 0) (k / 4 * 4 + j))
     (ap (λ (l : List ℕ). getD l j 0) e ∙ h)
 
--- the planes of a state: the words turned over, and their high half-bytes
-pub in-planes : (s w : List ℕ) → w ≡ crossed s
-    → planeBytes
-    (getD w 0 0
-    ∷ getD w 1 0
-    ∷ getD w 2 0
-    ∷ getD w 3 0
-    ∷ getD w 0 0 / 16
-    ∷ getD w 1 0 / 16
-    ∷ getD w 2 0 / 16
-    ∷ getD w 3 0 / 16
-    ∷ [])
-    ≡ blockOf s
-unfolding planeBytes lane crossed
-in-planes s w e =
-    let w0 = turned-bits s w e 0 refl in
-    let w1 = turned-bits s w e 1 refl in
-    let w2 = turned-bits s w e 2 refl in
-    let w3 = turned-bits s w e 3 refl in
-    (λ i.
-    byPlanes (w0 i) (w1 i) (w2 i) (w3 i)
-    (high 0 (crossedBit s 0) w0 i) (high 1 (crossedBit s 1) w1 i) (high 2 (crossedBit s 2) w2 i) (high 3 (crossedBit s 3) w3 i))
-    ∙ state-bits s
+-- four words that are known by their bits, and their high half-bytes
+abbrev pub byWords : (ℕ → ℕ) → (ℕ → ℕ) → (ℕ → ℕ) → (ℕ → ℕ) → Bytes
+byWords f0 f1 f2 f3 = byPlanes f0 f1 f2 f3 (λ k. f0 (4 + k)) (λ k. f1 (4 + k)) (λ k. f2 (4 + k)) (λ k. f3 (4 + k))
+
+pub words-bits : (w : List ℕ) → crossedBytes w ≡ byWords (bit (getD w 0 0)) (bit (getD w 1 0)) (bit (getD w 2 0)) (bit (getD w 3 0))
+unfolding crossedBytes planeBytes lane
+words-bits w =
+    λ i.
+    byPlanes (bit (getD w 0 0)) (bit (getD w 1 0)) (bit (getD w 2 0)) (bit (getD w 3 0)) (high 0 i) (high 1 i) (high 2 i) (high 3 i)
   where
-    high : (j : ℕ) (f : ℕ → ℕ) → bit (getD w j 0) ≡ known 32 f → bit (getD w j 0 / 16) ≡ (λ k. known 32 f (4 + k))
-    high j f h = fun-ext (bit-down (getD w j 0) 4) ∙ ap (λ (g : ℕ → ℕ). λ k. g (4 + k)) h
+    high : (j : ℕ) → bit (getD w j 0 / 16) ≡ (λ k. bit (getD w j 0) (4 + k))
+    high j = fun-ext (bit-down (getD w j 0) 4)
 
--- four words by their bits, turned over
-abbrev four : (ℕ → ℕ) → (ℕ → ℕ) → (ℕ → ℕ) → (ℕ → ℕ) → ℕ → ℕ → ℕ
-four f0 f1 f2 f3 zero = f0
-four f0 f1 f2 f3 (suc zero) = f1
-four f0 f1 f2 f3 (suc (suc zero)) = f2
-four f0 f1 f2 f3 (suc (suc (suc w))) = f3
+-- columns turned over are crossed words of their state
+pub crossed-bytes : (s : List ℕ) → crossedBytes (crossed s) ≡ blockOf s
+unfolding crossed
+crossed-bytes s =
+    let w0 = turned-bits s (crossed s) refl 0 refl in
+    let w1 = turned-bits s (crossed s) refl 1 refl in
+    let w2 = turned-bits s (crossed s) refl 2 refl in
+    let w3 = turned-bits s (crossed s) refl 3 refl in
+    words-bits (crossed s) ∙ (λ i. byWords (w0 i) (w1 i) (w2 i) (w3 i)) ∙ state-bits s
 
-abbrev over : (ℕ → ℕ) → (ℕ → ℕ) → (ℕ → ℕ) → (ℕ → ℕ) → ℕ → ℕ → ℕ
-over f0 f1 f2 f3 w k = four f0 f1 f2 f3 (k % 4) (k / 4 * 4 + w)
-
-abbrev turned : (ℕ → ℕ) → (ℕ → ℕ) → (ℕ → ℕ) → (ℕ → ℕ) → Bytes
-turned f0 f1 f2 f3 =
-    byColumns (known 32 (over f0 f1 f2 f3 0)) (known 32 (over f0 f1 f2 f3 1)) (known 32 (over f0 f1 f2 f3 2)) (known 32 (over f0 f1 f2 f3 3))
+-- and crossed words turned over are its columns
+pub uncrossed-block : (w : List ℕ) → blockOf (crossed w) ≡ crossedBytes w
+unfolding crossed
+uncrossed-block w =
+    let r0 = turned-bits w (crossed w) refl 0 refl in
+    let r1 = turned-bits w (crossed w) refl 1 refl in
+    let r2 = turned-bits w (crossed w) refl 2 refl in
+    let r3 = turned-bits w (crossed w) refl 3 refl in
+    sym (state-bits (crossed w)) ∙ (λ i. byColumns (r0 i) (r1 i) (r2 i) (r3 i)) ∙ sym (words-bits w)
 
 -- the bits of a word that is joined of two
 joined-bits : (a b v : ℕ) → v ≡ wordOf 32 (joinedBit (bit a) (bit b)) → bit v ≡ known 32 (joinedBit (bit a) (bit b))
@@ -111,25 +104,20 @@ joined-bits a b v =
     bits-known v (joinedBit (bit a) (bit b))
     (λ k. either-lt (ltb (k % 8) 4) (bit-lt a k) (bit-lt b (k - 4)))
 
--- the columns of a state on planes: the half-bytes joined, and the words turned over
-pub in-columns : (q r : List ℕ) (v0 v1 v2 v3 : ℕ)
+-- the crossed words of a state on planes: the half-bytes joined
+pub in-words : (q : List ℕ) (v0 v1 v2 v3 : ℕ)
     → v0 ≡ wordOf 32 (joinedBit (bit (getD q 0 0)) (bit (getD q 4 0)))
     → v1 ≡ wordOf 32 (joinedBit (bit (getD q 1 0)) (bit (getD q 5 0)))
     → v2 ≡ wordOf 32 (joinedBit (bit (getD q 2 0)) (bit (getD q 6 0)))
     → v3 ≡ wordOf 32 (joinedBit (bit (getD q 3 0)) (bit (getD q 7 0)))
-    → r ≡ crossed (v0 ∷ v1 ∷ v2 ∷ v3 ∷ [])
-    → blockOf r ≡ planeBytes q
-unfolding planeBytes lane crossed
-in-columns q r v0 v1 v2 v3 e0 e1 e2 e3 e =
-    let r0 = turned-bits (v0 ∷ v1 ∷ v2 ∷ v3 ∷ []) r e 0 refl in
-    let r1 = turned-bits (v0 ∷ v1 ∷ v2 ∷ v3 ∷ []) r e 1 refl in
-    let r2 = turned-bits (v0 ∷ v1 ∷ v2 ∷ v3 ∷ []) r e 2 refl in
-    let r3 = turned-bits (v0 ∷ v1 ∷ v2 ∷ v3 ∷ []) r e 3 refl in
+    → crossedBytes (v0 ∷ v1 ∷ v2 ∷ v3 ∷ []) ≡ planeBytes q
+unfolding planeBytes lane
+in-words q v0 v1 v2 v3 e0 e1 e2 e3 =
     let k0 = joined-bits (getD q 0 0) (getD q 4 0) v0 e0 in
     let k1 = joined-bits (getD q 1 0) (getD q 5 0) v1 e1 in
     let k2 = joined-bits (getD q 2 0) (getD q 6 0) v2 e2 in
     let k3 = joined-bits (getD q 3 0) (getD q 7 0) v3 e3 in
-    sym (state-bits r) ∙ (λ i. byColumns (r0 i) (r1 i) (r2 i) (r3 i)) ∙ (λ i. turned (k0 i) (k1 i) (k2 i) (k3 i))
+    words-bits (v0 ∷ v1 ∷ v2 ∷ v3 ∷ []) ∙ (λ i. byWords (k0 i) (k1 i) (k2 i) (k3 i))
 
 -- a state on planes of which the upper halves are dropped, where no byte stands
 pub low-halves : (q : List ℕ) → planeBytes (tab 8 (λ j. getD q j 0 % 4294967296)) ≡ planeBytes q
@@ -140,7 +128,7 @@ low-halves q =
     let within : place i < 32 = omega arith in
     ap number
     (tab-same 0 8 (λ j. bit (getD q j 0 % 4294967296) (place i)) (λ j. bit (getD q j 0) (place i))
-    (λ j h. bit-low 32 (getD q j 0) (place i) within)))
+    (λ j h. ap (λ (f : ℕ → ℕ). f (place i)) (low-bits 32 (getD q j 0)) ∙ rw (lt-ltb (place i) 32 within) refl)))
 
 -- the circuit in each lane is SubBytes of the state
 pub lanes-sub-bytes : (q r : List ℕ) → tab 64 (lane r) ≡ tab 64 (λ k. sbox (lane q k)) → planeBytes r ≡ SubBytes (planeBytes q)

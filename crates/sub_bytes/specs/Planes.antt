@@ -1,5 +1,5 @@
 -- Words by their bits, and a state on bit planes: plane j has bit j of each byte.
-use mathlib.Core.List.{List}
+use mathlib.Core.List.{List, [], _∷_}
 use Prim.Native.Nat.{ℕ, _+_, _-_, _*_, _/_, _%_}
 use lib.Dec.{ltb}
 use lib.ListN.{getD}
@@ -26,3 +26,21 @@ place i = 8 * (3 - i % 4) + i / 4
 -- the 16 bytes of a state on planes
 unfoldable pub planeBytes : List ℕ → Bytes
 planeBytes q = tab 16 (λ i. lane q (place i))
+
+-- the planes of four crossed words: word w has bit w of every byte in the low half-bytes and bit w + 4 in the high ones. What then stands
+-- in the high half-bytes of a plane belongs to no byte
+abbrev pub planesOf : List ℕ → List ℕ
+planesOf w =
+    getD w 0 0
+    ∷ getD w 1 0
+    ∷ getD w 2 0
+    ∷ getD w 3 0
+    ∷ getD w 0 0 / 16
+    ∷ getD w 1 0 / 16
+    ∷ getD w 2 0 / 16
+    ∷ getD w 3 0 / 16
+    ∷ []
+
+-- the 16 bytes of a state on crossed words
+unfoldable pub crossedBytes : List ℕ → Bytes
+crossedBytes w = planeBytes (planesOf w)

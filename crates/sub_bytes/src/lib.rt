@@ -1,14 +1,13 @@
-// SubBytes of FIPS 197 on a state of four columns, by a fixed sequence of operations and with no table: no address depends on a byte of the
-// state. The bits of the sixteen bytes are moved to planes, eight words of which word j has bit j of each byte; there the circuit of Boyar
-// and Peralta works on all bytes at once (`circuit`); and the bits are moved back.
+// SubBytes of FIPS 197 by a fixed sequence of operations and with no table: no address depends on a byte of the state. The state is four
+// crossed words (`specs/Planes`), which `crossed` makes of four columns, and of which it makes columns again. Their half-bytes are planes,
+// eight words of which word j has bit j of each byte; there the circuit of Boyar and Peralta works on all bytes at once (`circuit`).
 use columns::Columns;
 ghost use mathlib.Core.Path.{_≡_};
 ghost use Prim.Native.Nat.{_<_};
 ghost use Rattle.paper.specs.Fips197.{bit, SubBytes};
 ghost use Rattle.laws.proofs.WordBits.{wordOf};
 ghost use Rattle.laws.proofs.Exchange.{lower, upper};
-ghost use Rattle.columns.specs.Columns.{columnsOf, blockOf};
-ghost use Rattle.sub_bytes.specs.Planes.{crossed, joinedBit, planeBytes};
+ghost use Rattle.sub_bytes.specs.Planes.{crossed, joinedBit, planeBytes, planesOf, crossedBytes};
 
 struct Pair {
     a: u32,
@@ -28,8 +27,9 @@ fn exchanged(a: u32, b: u32, n: u32, m: u32) -> Pair
 }
 
 // Four words turned over in each half-byte: bit w of a half-byte of word v and bit v of that half-byte of word w change places. First single
-// bits go over, between words 0 and 1 and between 2 and 3; then pairs of bits, between 0 and 2 and between 1 and 3.
-fn crossed(s: Columns) -> Columns
+// bits go over, between words 0 and 1 and between 2 and 3; then pairs of bits, between 0 and 2 and between 1 and 3. Of columns this makes
+// crossed words, and of crossed words columns (`proofs/States`).
+pub fn crossed(s: Columns) -> Columns
     ensures { λ r. ⌜ r ≡ crossed s ⌝ }
 {
     let s0 = s[0];
@@ -43,12 +43,10 @@ fn crossed(s: Columns) -> Columns
     [u.b, v.b, u.a, v.a]
 }
 
-// A state on planes. Word w, turned over, has bit w of every byte in the low half-bytes and bit w + 4 in the high ones; what then stands in
-// the high half-bytes of a plane belongs to no byte.
-fn planes(s: Columns) -> [u64; 8]
-    ensures { λ r. ⌜ planeBytes r ≡ blockOf s ⌝ }
+// The planes of a state on crossed words.
+fn planes(w: Columns) -> [u64; 8]
+    ensures { λ r. ⌜ r ≡ planesOf w ⌝ }
 {
-    let w = crossed(s);
     [
         w[0] as u64,
         w[1] as u64,
@@ -84,23 +82,23 @@ fn low_halves(q: [u64; 8]) -> [u32; 8]
     ]
 }
 
-// The columns of a state on planes.
-fn columns(q: [u32; 8]) -> Columns
-    ensures { λ r. ⌜ blockOf r ≡ planeBytes q ⌝ }
+// The crossed words of a state on planes.
+fn words(q: [u32; 8]) -> Columns
+    ensures { λ r. ⌜ crossedBytes r ≡ planeBytes q ⌝ }
 {
     let w0 = joined(q[0], q[4]);
     let w1 = joined(q[1], q[5]);
     let w2 = joined(q[2], q[6]);
     let w3 = joined(q[3], q[7]);
-    crossed([w0, w1, w2, w3])
+    [w0, w1, w2, w3]
 }
 
-// Each byte of the state by the S-box.
-pub fn sub_bytes(s: Columns) -> Columns
-    ensures { λ r. ⌜ r ≡ columnsOf (SubBytes (blockOf s)) ⌝ }
+// Each byte of a state on crossed words by the S-box.
+pub fn sub_bytes(w: Columns) -> Columns
+    ensures { λ r. ⌜ crossedBytes r ≡ SubBytes (crossedBytes w) ⌝ }
 {
-    let q = planes(s);
+    let q = planes(w);
     let r = circuit::circuit(q);
     let h = low_halves(r);
-    columns(h)
+    words(h)
 }

@@ -10,7 +10,10 @@ use Rattle.paper.specs.Strings.{Block}
 use Rattle.paper.specs.Figure6 as figure6
 use Rattle.laws.proofs.KeyBlocks.{KeyBytes}
 use Rattle.block.proofs.Arrays.{array-bytes}
-use Rattle.columns.proofs.Conversions.{columns-block, blockOf-block}
+use Rattle.columns.specs.Columns.{columnsOf}
+use Rattle.columns.proofs.Conversions.{columns-block}
+use Rattle.sub_bytes.proofs.States.{crossed-bytes}
+use Rattle.aes.proofs.Blocks.{crossed-block}
 use Rattle.tbc.specs.declared.Key.{Key}
 use Rattle.tbc.specs.declared.Base.{Base}
 use Rattle.tbc.specs.Meaning.{blocks, base, baseOf, OfJ}
@@ -30,13 +33,16 @@ key-bytes k vs p =
     }
 
 pub base-bytes : (k : Base) → KeyBytes (base k)
-base-bytes k = record { I = blockOf-block (k .i); J = blockOf-block (k .j); L = blockOf-block (k .l) }
+base-bytes k = record { I = crossed-block (k .i); J = crossed-block (k .j); L = crossed-block (k .l) }
 
 -- a base that was taken out of k has its blocks
 pub has-blocks : (k : Key) (vs : List Val) → Is (row key.the-type) k vs → (b : Base) → b ≡ baseOf (blocks k) → base b ≡ blocks k
 has-blocks k vs p b e =
     let bytes = key-bytes k vs p in
-    ap base e ∙ (λ i. record { I = columns-block (bytes .I) i; J = columns-block (bytes .J) i; L = columns-block (bytes .L) i })
+    let I = crossed-bytes (columnsOf (k .i)) ∙ columns-block (bytes .I) in
+    let J = crossed-bytes (columnsOf (k .j)) ∙ columns-block (bytes .J) in
+    let L = crossed-bytes (columnsOf (k .l)) ∙ columns-block (bytes .L) in
+    ap base e ∙ (λ i. record { I = I i; J = J i; L = L i })
 
 -- the multiples of J that were taken out of k are those of its base b
 pub of-j : (k : Key) (b : Base) (m : List ℕ) → base b ≡ blocks k → m ≡ multiples (k .j) → OfJ b m

@@ -1,4 +1,4 @@
-mod Masks
+pub mod Masks
 pub mod Powers
 pub mod Pairs
 pub mod Keys

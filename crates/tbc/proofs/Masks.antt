@@ -3,7 +3,8 @@ use mathlib.Core.Bool.{Bool, true, false}
 use mathlib.Core.Path.{_≡_, refl, ap, ap₂, subst, _∙_}
 use Prim.Native.Nat.{ℕ, zero, suc, _-_, _*_, _/_, _%_, _≤_}
 use native.Mathlib.Omega.{arith}
-use mathlib.Core.List.{List, _∷_, map}
+use mathlib.Core.List.{List, _∷_}
+use lib.ListN.{drop}
 use Rattle.paper.specs.Strings.{Bytes, Block, if_then_else_, _⊕_}
 use Rattle.paper.specs.Section7.{zeros, twoTo, _·_, AES}
 use Rattle.paper.specs.Figure6 as figure6
@@ -13,7 +14,10 @@ use Rattle.laws.proofs.KeyBlocks.{times-block, twoTo-block}
 use Rattle.laws.proofs.Round.{AES-mask}
 use Rattle.columns.specs.Columns.{columnsOf, blockOf}
 use Rattle.columns.proofs.Conversions.{made, sum-of}
-use Rattle.tbc.specs.Meaning.{base, OfJ, rowOf, Plain, Running}
+use Rattle.aes.specs.Steps.{keysOf}
+use Rattle.circuit.specs.Planes.{lane}
+use Rattle.sub_bytes.specs.Planes.{planeBytes, crossedBytes}
+use Rattle.tbc.specs.Meaning.{base, masked0, OfJ, rowOf, Plain, Running}
 use Rattle.multiples.specs.Eight.{fourAt}
 use Rattle.tbc.specs.declared.Base.{Base}
 use Rattle.tbc.specs.declared.Pair.{Pair}
@@ -66,6 +70,11 @@ module _ (k : Base) (m : List ℕ) (of : OfJ k m) where
 
 -- AES under keys of which the first is the mask M: the mask is added, and the zero key with it
 pub with-mask : (Ks : List Bytes) (keys : List (List ℕ)) (mask : List ℕ) (M x r : Bytes) → Block M → Block x → mask ≡ columnsOf M
-    → map blockOf keys ≡ blockOf mask ∷ Ks → r ≡ AES (map blockOf keys) x → r ≡ AES (zeros ∷ Ks) (x ⊕ M)
+    → keysOf keys ≡ blockOf mask ∷ Ks → r ≡ AES (keysOf keys) x → r ≡ AES (zeros ∷ Ks) (x ⊕ M)
 with-mask Ks keys mask M x r p q e f g =
     g ∙ ap (λ (l : List Bytes). AES l x) (f ∙ ap (λ (N : Bytes). N ∷ Ks) (made p e)) ∙ AES-mask Ks q p
+
+-- the keys that `masked0` names: the last is zero, and zeros stay zeros when they are crossed
+pub first-masked : (k : Base) (mask : List ℕ) → keysOf (masked0 k mask) ≡ blockOf mask ∷ drop 1 (figure6.k0 (base k))
+unfolding crossedBytes planeBytes lane
+first-masked k mask = refl

@@ -11,20 +11,21 @@ use Rattle.paper.specs.Figure6 as figure6
 use Rattle.paper.specs.Figure6.{Row, minus1, row}
 use Rattle.paper.specs.Document01.{Use, a, aᵢ, aaᵢ, x, y, xx, yy, u, v, uu, vv, tiny, tinyLast, prf, hash, indices}
 use Rattle.columns.specs.Columns.{columnsOf, blockOf}
+use Rattle.sub_bytes.specs.Planes.{crossed, crossedBytes}
 use Rattle.multiples.specs.Eight.{multiples}
 use Rattle.tbc.specs.declared.Key.{Key}
 use Rattle.tbc.specs.declared.Base.{Base}
 use Rattle.tbc.specs.declared.Pair.{Pair}
 
--- the three blocks of a key record, and of the part of it that loops take along, which has them as columns
+-- the three blocks of a key record, and of the part of it that loops take along, which has them as crossed words
 abbrev pub blocks : Key → figure6.Key
 blocks k = record { I = k .i; J = k .j; L = k .l }
 
 abbrev pub base : Base → figure6.Key
-base k = record { I = blockOf (k .i); J = blockOf (k .j); L = blockOf (k .l) }
+base k = record { I = crossedBytes (k .i); J = crossedBytes (k .j); L = crossedBytes (k .l) }
 
 abbrev pub baseOf : figure6.Key → Base
-baseOf K = record { i = columnsOf (K .I); j = columnsOf (K .J); l = columnsOf (K .L) }
+baseOf K = record { i = crossed (columnsOf (K .I)); j = crossed (columnsOf (K .J)); l = crossed (columnsOf (K .L)) }
 
 -- each block that the record keeps is its multiple of I, J or L: those that request E7 names, and those that Figure 6 reads
 pub record Kept (k : Key) : Type 0 where

@@ -1,7 +1,7 @@
 // The block function E of Figure 6 of the AEZ paper: the key record, the table of index pairs, and E itself. A block goes in and comes out as
 // 16 bytes; masks, multiples and keys are columns (`columns`).
 use columns::Columns;
-ghost use mathlib.Core.List.{[], _∷_, map};
+ghost use mathlib.Core.List.{[], _∷_};
 ghost use mathlib.Core.Path.{_≡_};
 ghost use Prim.Native.Nat.{_+_, _-_, _*_, _%_, _<_, _≤_};
 ghost use lib.ListN.{length, drop};
@@ -9,6 +9,7 @@ ghost use Rattle.paper.specs.Strings.{_⊕_};
 ghost use Rattle.paper.specs.Section7.{_·_};
 ghost use Rattle.paper.specs.Figure6.{keyOf, k1, k2, K10, E};
 ghost use Rattle.columns.specs.Columns.{columnsOf, blockOf};
+ghost use Rattle.aes.specs.Steps.{keysOf};
 ghost use Rattle.multiples.specs.Eight.{multiples, fourAt};
 ghost use Rattle.tbc.specs.Meaning.{blocks, base, baseOf, Kept, OfJ, masked0, pair, indexPairs, rowOf, nextPower, Plain, Running};
 
@@ -28,7 +29,8 @@ pub struct Key {
     rows: [u32; 32],
 }
 
-// What loops take of a key from block to block: I, J and L as columns, by value. The multiples of J are lent beside it.
+// What loops take of a key from block to block: I, J and L as crossed words, by value, which AES takes for its keys. The multiples of J are
+// lent beside it.
 pub struct Base {
     i: Columns,
     j: Columns,
@@ -80,9 +82,12 @@ impl Key {
         let block_i = self.i;
         let block_j = self.j;
         let block_l = self.l;
-        let i = columns::of_block(block_i);
-        let j = columns::of_block(block_j);
-        let l = columns::of_block(block_l);
+        let columns_i = columns::of_block(block_i);
+        let columns_j = columns::of_block(block_j);
+        let columns_l = columns::of_block(block_l);
+        let i = sub_bytes::crossed(columns_i);
+        let j = sub_bytes::crossed(columns_j);
+        let l = sub_bytes::crossed(columns_l);
         Base { i, j, l }
     }
 
@@ -115,13 +120,16 @@ impl Key {
 }
 
 impl Base {
-    // I, J and L.
+    // I, J and L as columns.
     pub fn blocks(self) -> [Columns; 3]
         ensures { λ r. ⌜ r ≡ columnsOf (base self .I) ∷ columnsOf (base self .J) ∷ columnsOf (base self .L) ∷ [] ⌝ }
     {
-        let i = self.i;
-        let j = self.j;
-        let l = self.l;
+        let crossed_i = self.i;
+        let crossed_j = self.j;
+        let crossed_l = self.l;
+        let i = sub_bytes::crossed(crossed_i);
+        let j = sub_bytes::crossed(crossed_j);
+        let l = sub_bytes::crossed(crossed_l);
         [i, j, l]
     }
 
@@ -129,7 +137,8 @@ impl Base {
     pub fn power(self) -> Columns
         ensures { λ r. ⌜ r ≡ columnsOf (base self .L) ⌝ }
     {
-        self.l
+        let l = self.l;
+        sub_bytes::crossed(l)
     }
 }
 
@@ -212,7 +221,7 @@ impl Pair {
 }
 
 // Lines 402 and 403: the key lists, with a mask for the first key. That key is zero, and it is added where the mask is.
-fn keys0(k: Base, mask: Columns) -> [Columns; 5]
+pub fn keys0(k: Base, mask: Columns) -> [Columns; 5]
     ensures { λ r. ⌜ r ≡ masked0 k mask ⌝ }
 {
     let z = [0u32; 4];
@@ -223,7 +232,7 @@ fn keys0(k: Base, mask: Columns) -> [Columns; 5]
 }
 
 fn keys1(k: Base, mask: Columns) -> [Columns; 5]
-    ensures { λ r. ⌜ map blockOf r ≡ blockOf mask ∷ drop 1 (k1 (base k)) ⌝ }
+    ensures { λ r. ⌜ keysOf r ≡ blockOf mask ∷ drop 1 (k1 (base k)) ⌝ }
 {
     let z = [0u32; 4];
     let i = k.i;
@@ -233,7 +242,7 @@ fn keys1(k: Base, mask: Columns) -> [Columns; 5]
 }
 
 fn keys2(k: Base, mask: Columns) -> [Columns; 5]
-    ensures { λ r. ⌜ map blockOf r ≡ blockOf mask ∷ drop 1 (k2 (base k)) ⌝ }
+    ensures { λ r. ⌜ keysOf r ≡ blockOf mask ∷ drop 1 (k2 (base k)) ⌝ }
 {
     let i = k.i;
     let j = k.j;
@@ -242,7 +251,7 @@ fn keys2(k: Base, mask: Columns) -> [Columns; 5]
 }
 
 fn keys10(k: Base, mask: Columns) -> [Columns; 11]
-    ensures { λ r. ⌜ map blockOf r ≡ blockOf mask ∷ drop 1 (K10 (base k)) ⌝ }
+    ensures { λ r. ⌜ keysOf r ≡ blockOf mask ∷ drop 1 (K10 (base k)) ⌝ }
 {
     let i = k.i;
     let j = k.j;

@@ -3,7 +3,6 @@
 // a turn is then AES4 and a few operations on columns. m is everywhere 0·J to 7·J, taken out of the key once.
 use columns::Columns;
 ghost use mathlib.Core.Bool.{false};
-ghost use mathlib.Core.List.{map};
 ghost use mathlib.Core.Path.{_≡_};
 ghost use Prim.Native.Nat.{_+_, _-_, _*_, _≤_, _<_};
 ghost use lib.ListN.{length, take, drop, getD};
@@ -12,6 +11,7 @@ ghost use Rattle.paper.specs.Section7.{_·_};
 ghost use Rattle.paper.specs.Figure6.{E};
 ghost use Rattle.paper.specs.Figure5.{halves, joined, tinyRounds, tinyIndex, encipherTiny, decipherTiny};
 ghost use Rattle.columns.specs.Columns.{columnsOf, blockOf};
+ghost use Rattle.aes.specs.Steps.{keysOf};
 ghost use Rattle.tbc.specs.Meaning.{blocks, base, Kept, OfJ, masked0, pair};
 ghost use Rattle.tiny.specs.HalfBytes.{halfBytes, byteOf, wholeBytes, lastBytes};
 ghost use Rattle.tiny.specs.Blocks.{mark, front, blocksOf, packedBoth, firsts, blockTurn, blockTurnsUp, blockTurnsDown, frontColumn};
@@ -177,7 +177,7 @@ fn and(a: Columns, b: Columns) -> Columns
 
 // Line 216: turn i. Its number goes into the last column alone.
 fn turn(keys: &[Columns; 5], bits: Columns, i: u32, s: Halves) -> Halves
-    ensures { λ t. ⌜ blocksOf t ≡ blockTurn (map blockOf (now (keys .entry))) (blockOf bits) i (blocksOf s) ⌝ }
+    ensures { λ t. ⌜ blocksOf t ≡ blockTurn (keysOf (now (keys .entry))) (blockOf bits) i (blocksOf s) ⌝ }
 {
     let l = s.l;
     let r = s.r;
@@ -190,7 +190,7 @@ fn turn(keys: &[Columns; 5], bits: Columns, i: u32, s: Halves) -> Halves
 
 // Line 215: the turns 0, 1, .. for n bytes.
 fn turns_up(keys: &[Columns; 5], bits: Columns, n: usize, s: Halves) -> Halves
-    ensures { λ t. ⌜ blocksOf t ≡ blockTurnsUp (map blockOf (now (keys .entry))) (blockOf bits) (tinyRounds (8 * n)) (blocksOf s) ⌝ }
+    ensures { λ t. ⌜ blocksOf t ≡ blockTurnsUp (keysOf (now (keys .entry))) (blockOf bits) (tinyRounds (8 * n)) (blocksOf s) ⌝ }
 {
     let count = rounds(n);
     let mut t = s;
@@ -205,7 +205,7 @@ fn turns_up(keys: &[Columns; 5], bits: Columns, n: usize, s: Halves) -> Halves
 
 // Line 215 when deciphering: the turns .., 1, 0.
 fn turns_down(keys: &[Columns; 5], bits: Columns, n: usize, s: Halves) -> Halves
-    ensures { λ t. ⌜ blocksOf t ≡ blockTurnsDown (map blockOf (now (keys .entry))) (blockOf bits) (tinyRounds (8 * n)) (blocksOf s) ⌝ }
+    ensures { λ t. ⌜ blocksOf t ≡ blockTurnsDown (keysOf (now (keys .entry))) (blockOf bits) (tinyRounds (8 * n)) (blocksOf s) ⌝ }
 {
     let mut t = s;
     let mut left = rounds(n);

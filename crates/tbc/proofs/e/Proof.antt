@@ -1,5 +1,5 @@
 -- `tbc::e` meets its contract.
-use mathlib.Core.List.{List, _∷_, map}
+use mathlib.Core.List.{List, _∷_}
 use mathlib.Core.Path.{_≡_, ap, sym, _∙_}
 use Prim.Native.Nat.{ℕ}
 use borrow.Author.Needs.{needs}
@@ -11,9 +11,10 @@ use Rattle.laws.proofs.BlockFunction.{E-404, E-405}
 use Rattle.laws.proofs.KeyBlocks.{times-block}
 use Rattle.block.proofs.Arrays.{array-bytes}
 use Rattle.columns.specs.Columns.{columnsOf, blockOf}
+use Rattle.aes.specs.Steps.{keysOf}
 use Rattle.tbc.specs.Meaning.{base, rowOf}
 use Rattle.tbc.proofs.Keys.{base-bytes}
-use Rattle.tbc.proofs.Masks.{in-minus1, in-row, in-row-0, plain-small, read, with-mask}
+use Rattle.tbc.proofs.Masks.{first-masked, in-minus1, in-row, in-row-0, plain-small, read, with-mask}
 use Rattle.tbc.proofs.e.Statement.{statement}
 use Rattle.tbc.proofs.e.Tie as tie
 
@@ -30,8 +31,8 @@ module _ (c : tie.After-multiple) where
       let a = start .args in
       c .multiple .ensures ∙ read (a .k) (a .m .now) (start .pre .1) (a .p .2) (plain-small (rowOf (a .p)) (a .p .2) (start .pre .0))
 
-  under : (Ks : List Bytes) (keys : List (List ℕ)) (r : Bytes) → map blockOf keys ≡ blockOf (c .multiple .result) ∷ Ks
-      → r ≡ AES (map blockOf keys) (start .args .x) → r ≡ AES (zeros ∷ Ks) (start .args .x ⊕ start .args .p .2 · J)
+  under : (Ks : List Bytes) (keys : List (List ℕ)) (r : Bytes) → keysOf keys ≡ blockOf (c .multiple .result) ∷ Ks
+      → r ≡ AES (keysOf keys) (start .args .x) → r ≡ AES (zeros ∷ Ks) (start .args .x ⊕ start .args .p .2 · J)
   under Ks keys r f g =
       with-mask Ks keys (c .multiple .result) (start .args .p .2 · J) (start .args .x) r
       (times-block (start .args .p .2) (base-bytes (start .args .k) .J))
@@ -54,7 +55,7 @@ returns-2 c =
     let a = y .before .args in
     let K = base (a .k) in
     let zero : a .p .1 ≡ 0 = in-row-0 (a .p) (y .before .pre .0) (c .before .before .if1 .left) in
-    under y (drop 1 (k0 K)) (c .before .keys0 .result) (c .aes4 .result) (ap (map blockOf) (c .before .keys0 .ensures)) (c .aes4 .ensures)
+    under y (drop 1 (k0 K)) (c .before .keys0 .result) (c .aes4 .result) (ap keysOf (c .before .keys0 .ensures) ∙ first-masked (a .k) (y .multiple .result)) (c .aes4 .ensures)
     ∙ sym (in-row K (a .x) (a .p) 0 (c .before .before .if1 .left) zero ∙ E-405 K (a .x) (a .p .2))
 
 pub e-spec : {M : Type 1} → statement M

@@ -1,5 +1,5 @@
 -- `tbc::e_running` meets its contract.
-use mathlib.Core.List.{List, _∷_, map}
+use mathlib.Core.List.{List, _∷_}
 use mathlib.Core.Path.{_≡_, ap, sym, _∙_}
 use Prim.Native.Nat.{ℕ, _-_, _/_, _%_}
 use native.Mathlib.Omega.{arith}
@@ -12,14 +12,15 @@ use Rattle.laws.proofs.BlockFunction.{E-406-1, E-406-2}
 use Rattle.laws.proofs.Strings.{⊕-assoc}
 use Rattle.block.proofs.Arrays.{array-bytes}
 use Rattle.columns.specs.Columns.{blockOf}
+use Rattle.aes.specs.Steps.{keysOf}
 use Rattle.tbc.specs.Meaning.{base}
 use Rattle.tbc.proofs.Masks.{in-row, runningMask, runningMask-block, running-is, with-mask}
 use Rattle.tbc.proofs.e_running.Statement.{statement}
 use Rattle.tbc.proofs.e_running.Tie as tie
 
 -- the mask stands for the first key of a list
-under : (c : tie.After-running-mask) (Ks : List Bytes) (keys : List (List ℕ)) (r : Bytes) → map blockOf keys ≡ blockOf (c .running-mask .result) ∷ Ks
-    → r ≡ AES (map blockOf keys) (c .before .args .x) → r ≡ AES (zeros ∷ Ks) (masked (base (c .before .args .k)) (c .before .args .p .2) (c .before .args .x))
+under : (c : tie.After-running-mask) (Ks : List Bytes) (keys : List (List ℕ)) (r : Bytes) → keysOf keys ≡ blockOf (c .running-mask .result) ∷ Ks
+    → r ≡ AES (keysOf keys) (c .before .args .x) → r ≡ AES (zeros ∷ Ks) (masked (base (c .before .args .k)) (c .before .args .p .2) (c .before .args .x))
 under c Ks keys r f g =
     let s = c .before in
     let a = s .args in

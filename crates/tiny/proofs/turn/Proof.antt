@@ -1,5 +1,5 @@
 -- `tiny::turn` meets its contract.
-use mathlib.Core.List.{[], _∷_, map}
+use mathlib.Core.List.{[], _∷_}
 use mathlib.Core.Path.{ap, _∙_}
 use borrow.Author.Needs.{needs}
 use Rattle.paper.specs.Strings.{Bytes, _⊕_, _and_}
@@ -7,7 +7,8 @@ use Rattle.paper.specs.Section7.{AES4}
 use Rattle.laws.proofs.Digits.{⊕-block}
 use Rattle.columns.specs.Columns.{blockOf}
 use Rattle.columns.proofs.Conversions.{made, blockOf-block}
-use Rattle.aes.proofs.Blocks.{AES-columns}
+use Rattle.aes.proofs.Blocks.{AES-keys}
+use Rattle.aes.specs.Steps.{keysOf}
 use Rattle.tiny.specs.Blocks.{blockTurn}
 use Rattle.tiny.proofs.ColumnBits.{and-block, number-column}
 use Rattle.tiny.proofs.turn.Statement.{statement}
@@ -26,7 +27,7 @@ returns c =
     let x =
     made (⊕-block (blockOf-block (a .s .r)) number-block) (at-x .xor .ensures)
     ∙ ap (λ (N : Bytes). blockOf (a .s .r) ⊕ N) (number-column (a .i) (s .fits .i .fits)) in
-    let y = made (AES-columns keys (blockOf-block (at-x .xor .result))) (at-aes .aes4-columns .ensures) ∙ ap (AES4 (map blockOf keys)) x in
+    let y = made (AES-keys keys (blockOf-block (at-x .xor .result))) (at-aes .aes4-columns .ensures) ∙ ap (AES4 (keysOf keys)) x in
     let kept =
     made (and-block (blockOf-block (at-aes .aes4-columns .result)) (blockOf-block (a .bits))) (at-and .and .ensures)
     ∙ ap (λ (Y : Bytes). Y and blockOf (a .bits)) y in

@@ -1,10 +1,10 @@
 -- `tiny::turns_down` meets its contract. The invariant: the turns that are left make of t what all turns make of s.
-use mathlib.Core.List.{map}
 use mathlib.Core.Path.{_≡_, refl, ap, _∙_}
 use Prim.Native.Nat.{ℕ}
 use native.Mathlib.Omega.{arith}
 use borrow.Author.Needs.{needs}
 use Rattle.columns.specs.Columns.{blockOf}
+use Rattle.aes.specs.Steps.{keysOf}
 use Rattle.tiny.specs.Blocks.{blocksOf, blockTurnsDown}
 use Rattle.tiny.proofs.AllTurns.{down-none, down-more}
 use Rattle.tiny.proofs.turns_down.Statement.{statement}
@@ -12,7 +12,7 @@ use Rattle.tiny.proofs.turns_down.Tie as tie
 
 abbrev Inv-loop : tie.InvT-loop
 Inv-loop keys bits n t₀ left₀ t left =
-    blockTurnsDown (map blockOf keys) (blockOf bits) left (blocksOf t) ≡ blockTurnsDown (map blockOf keys) (blockOf bits) left₀ (blocksOf t₀)
+    blockTurnsDown (keysOf keys) (blockOf bits) left (blocksOf t) ≡ blockTurnsDown (keysOf keys) (blockOf bits) left₀ (blocksOf t₀)
 
 abbrev μ-loop : tie.MeasureT-loop
 μ-loop keys bits n t₀ left₀ t left = left
@@ -39,13 +39,13 @@ loop-again : tie.Need-loop-again Inv-loop μ-loop
 loop-again c =
     let k = c .before .before in
     let a = start k .args in
-    down-more (map blockOf (a .keys .now)) (blockOf (a .bits)) (k .loop .left) (blocksOf (k .loop .t)) _ _ (c .before .loop-test .taken) (k .loop .inv) (c .turn .ensures)
+    down-more (keysOf (a .keys .now)) (blockOf (a .bits)) (k .loop .left) (blocksOf (k .loop .t)) _ _ (c .before .loop-test .taken) (k .loop .inv) (c .turn .ensures)
 
 returns : tie.Need-returns Inv-loop μ-loop
 returns c =
     let k = c .before in
     let a = start k .args in
-    let Ks = map blockOf (a .keys .now) in
+    let Ks = keysOf (a .keys .now) in
     let M = blockOf (a .bits) in
     let done : 0 ≡ k .loop .left = omega arith in
     down-none Ks M (blocksOf (k .loop .t)) _

@@ -1,17 +1,17 @@
 -- `tiny::turns_up` meets its contract. The invariant: t is s after the turns below i.
-use mathlib.Core.List.{map}
 use mathlib.Core.Path.{_≡_, ap, _∙_}
 use Prim.Native.Nat.{ℕ, _-_, _≤_}
 use native.Mathlib.Omega.{arith}
 use borrow.Author.Needs.{needs}
 use Rattle.columns.specs.Columns.{blockOf}
+use Rattle.aes.specs.Steps.{keysOf}
 use Rattle.tiny.specs.Blocks.{blocksOf, blockTurnsUp}
 use Rattle.tiny.proofs.AllTurns.{up-none, up-more}
 use Rattle.tiny.proofs.turns_up.Statement.{statement}
 use Rattle.tiny.proofs.turns_up.Tie as tie
 
 abbrev Inv-loop : tie.InvT-loop
-Inv-loop keys bits n count t₀ i₀ t i = (i ≤ count) × (blocksOf t ≡ blockTurnsUp (map blockOf keys) (blockOf bits) i (blocksOf t₀))
+Inv-loop keys bits n count t₀ i₀ t i = (i ≤ count) × (blocksOf t ≡ blockTurnsUp (keysOf keys) (blockOf bits) i (blocksOf t₀))
 
 abbrev μ-loop : tie.MeasureT-loop
 μ-loop keys bits n count t₀ i₀ t i = count - i
@@ -23,7 +23,7 @@ rounds-requires : tie.Need-rounds-requires Inv-loop μ-loop
 rounds-requires c κs = search needs
 
 loop-holds : tie.Need-loop-holds Inv-loop μ-loop
-loop-holds c = let a = c .before .args in (omega arith, up-none (map blockOf (a .keys .now)) (blockOf (a .bits)) (blocksOf (a .s)))
+loop-holds c = let a = c .before .args in (omega arith, up-none (keysOf (a .keys .now)) (blockOf (a .bits)) (blocksOf (a .s)))
 
 turn-requires : tie.Need-turn-requires Inv-loop μ-loop
 turn-requires c κs = search needs
@@ -38,7 +38,7 @@ loop-again : tie.Need-loop-again Inv-loop μ-loop
 loop-again c =
     let k = c .before .before in
     let a = start k .args in
-    (omega arith, up-more (map blockOf (a .keys .now)) (blockOf (a .bits)) (k .loop .i) (blocksOf (a .s)) _ _ (k .loop .inv .1) (c .turn .ensures))
+    (omega arith, up-more (keysOf (a .keys .now)) (blockOf (a .bits)) (k .loop .i) (blocksOf (a .s)) _ _ (k .loop .inv .1) (c .turn .ensures))
 
 returns : tie.Need-returns Inv-loop μ-loop
 returns c =
@@ -46,7 +46,7 @@ returns c =
     let a = start k .args in
     let done : k .loop .i ≡ k .before .rounds .result = omega arith in
     k .loop .inv .1
-    ∙ ap (λ (i : ℕ). blockTurnsUp (map blockOf (a .keys .now)) (blockOf (a .bits)) i (blocksOf (a .s))) (done ∙ k .before .rounds .ensures)
+    ∙ ap (λ (i : ℕ). blockTurnsUp (keysOf (a .keys .now)) (blockOf (a .bits)) i (blocksOf (a .s))) (done ∙ k .before .rounds .ensures)
 
 pub turns-up-spec : {M : Type 1} → statement M
 turns-up-spec =

@@ -1,15 +1,25 @@
 -- `tbc::Key::base` meets its contract.
+use mathlib.Core.Path.{ap, _∙_}
 use borrow.Author.Needs.{needs}
+use Rattle.sub_bytes.specs.Planes.{crossed}
 use Rattle.tbc.proofs.Key.base.Statement.{statement}
 use Rattle.tbc.proofs.Key.base.Tie as tie
 
 returns : tie.Need-returns
-returns c = λ i. record { i = c .before .before .of-block .ensures i; j = c .before .of-block2 .ensures i; l = c .of-block3 .ensures i }
+returns c =
+    let l = c .before .before .before in
+    let i' = c .before .before .crossed .ensures ∙ ap crossed (l .before .before .of-block .ensures) in
+    let j' = c .before .crossed2 .ensures ∙ ap crossed (l .before .of-block2 .ensures) in
+    let l' = c .crossed3 .ensures ∙ ap crossed (l .of-block3 .ensures) in
+    λ n. record { i = i' n; j = j' n; l = l' n }
 
 pub base-spec : {M : Type 1} → statement M
 base-spec =
     tie.close
     (tie.spec
+    (λ c κs. search needs)
+    (λ c κs. search needs)
+    (λ c κs. search needs)
     (λ c κs. search needs)
     (λ c κs. search needs)
     (λ c κs. search needs)
