@@ -18,4 +18,4 @@ pub held : (keys : Key → List Bytes) (K : Key) (w : List (List ℕ)) → Holds
 unfolding AES4s
 held keys K w h g =
     each-same (λ i. columnsOf (AES4 (keys (keyFor w i)) (blockOf (entry g i)))) (λ i. columnsOf (AES4 (keys K) (blockOf (entry g i))))
-    (λ i b. ap (λ (k : Key). columnsOf (AES4 (keys k) (blockOf (entry g i)))) (h i b))
+    (λ i b. ap (λ (k : Key). columnsOf (AES4 (keys k) (blockOf (entry g i)))) (h .0 i b))

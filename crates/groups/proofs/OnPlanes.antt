@@ -14,7 +14,7 @@ use Rattle.columns.specs.Columns.{columnsOf, blockOf}
 use Rattle.columns.proofs.Conversions.{block-columns}
 use Rattle.planes.specs.Planes.{lane, planeBlock, placeOf, upTo, planeBlocks, turned, columnsIn, groupBlock, groupOf}
 use Rattle.planes.proofs.Places.{at-one}
-use Rattle.groups.specs.Groups.{entry, AES4s, fiveKeys}
+use Rattle.groups.specs.Groups.{entry, AES4s, fiveKeys, EndsInZero}
 use Rattle.groups.proofs.Each.{each-same}
 
 -- ---- places
@@ -74,5 +74,8 @@ same-keys k l g h =
     (λ i b. ap (λ (Ks : List Bytes). columnsOf (AES4 Ks (blockOf (entry g i)))) (h i))
 
 -- the last key is zero
-pub ended : (keys : Bytes → ℕ → List Bytes) (g : List (List ℕ)) → AES4s (λ i. keys (planeBlock (replicate 32 0) (placeOf i)) i) g ≡ AES4s (keys zeros) g
-ended keys g = same-keys (λ i. keys (planeBlock (replicate 32 0) (placeOf i)) i) (keys zeros) g (λ i. ap (λ (Z : Bytes). keys Z i) (no-key (placeOf i)))
+pub ended : (keys : Bytes → ℕ → List Bytes) (w g : List (List ℕ)) → EndsInZero w
+    → AES4s (λ i. keys (planeBlock (entry w 3) (placeOf i)) i) g ≡ AES4s (keys zeros) g
+ended keys w g e =
+    same-keys (λ i. keys (planeBlock (entry w 3) (placeOf i)) i) (keys zeros) g
+    (λ i. ap (λ (Z : Bytes). keys Z i) (ap (λ (z : List ℕ). planeBlock z (placeOf i)) e ∙ no-key (placeOf i)))

@@ -1,9 +1,9 @@
--- Sixteen blocks entry a time: a group is a list of sixteen blocks of columns.
+-- Sixteen blocks at a time: a group is a list of sixteen blocks of columns.
 use mathlib.Core.List.{List, [], _∷_}
 use mathlib.Core.Path.{_≡_}
 use Prim.Native.Nat.{ℕ, _+_, _-_, _*_, _/_, _%_, _<_}
 use lib.Dec.{ltb}
-use lib.ListN.{length, take, drop, getD}
+use lib.ListN.{length, take, drop, getD, replicate}
 use Rattle.paper.specs.Strings.{Bytes, if_then_else_, _⊕_}
 use Rattle.paper.specs.Section7.{zeros, twoTo, AES4}
 use Rattle.paper.specs.Figure6.{Key}
@@ -37,7 +37,7 @@ fiveKeys w1 w2 w3 w4 i =
 abbrev pub maskFrom : List ℕ → ℕ → List ℕ → ℕ → Bytes
 maskFrom m b power i = blockOf (fourAt m (4 * ((b + i) % 8))) ⊕ twoTo ((b + i - 1) / 8 - (b - 1) / 8) (blockOf power)
 
--- the key that three blocks on planes, I, J and L, hold for the i-th block of a group
+-- the key that the first three of four blocks on planes, I, J and L, hold for the i-th block of a group
 unfoldable pub keyFor : List (List ℕ) → ℕ → Key
 keyFor w i = record {
   I = planeBlock (entry w 0) (placeOf i);
@@ -45,10 +45,14 @@ keyFor w i = record {
   L = planeBlock (entry w 2) (placeOf i);
 }
 
--- w holds the key K for each of the sixteen blocks
-abbrev pub Holds : Key → List (List ℕ) → Type 0
-Holds K w = (i : ℕ) → i < 16 → keyFor w i ≡ K
+-- the fourth is zeros: the last key of k0 and k1
+abbrev pub EndsInZero : List (List ℕ) → Type 0
+EndsInZero w = entry w 3 ≡ replicate 32 0
 
--- I, J and L of a key on planes, each in every place
+-- w holds the key K for each of the sixteen blocks, and zero
+abbrev pub Holds : Key → List (List ℕ) → Type 0
+Holds K w = ((i : ℕ) → i < 16 → keyFor w i ≡ K) × EndsInZero w
+
+-- I, J and L of a key on planes, each in every place, and zero
 unfoldable pub keysOf : Key → List (List ℕ)
-keysOf K = copied (columnsOf (K .I)) ∷ copied (columnsOf (K .J)) ∷ copied (columnsOf (K .L)) ∷ []
+keysOf K = copied (columnsOf (K .I)) ∷ copied (columnsOf (K .J)) ∷ copied (columnsOf (K .L)) ∷ replicate 32 0 ∷ []

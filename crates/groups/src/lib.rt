@@ -9,13 +9,13 @@ ghost use Rattle.paper.specs.Strings.{_⊕_, sum};
 ghost use Rattle.paper.specs.Figure6.{k0, k1, k2};
 ghost use Rattle.columns.specs.Columns.{columnsOf, blockOf};
 ghost use Rattle.tbc.specs.Meaning.{base};
-ghost use Rattle.groups.specs.Groups.{each, entry, loaded, AES4s, maskFrom, fiveKeys, keyFor, Holds, keysOf};
+ghost use Rattle.groups.specs.Groups.{each, entry, loaded, AES4s, maskFrom, fiveKeys, keyFor, EndsInZero, Holds, keysOf};
 
 // Sixteen blocks of columns.
 pub type Group = [Columns; 16];
 
-// I, J and L on planes.
-pub type Keys = [Planes; 3];
+// I, J and L on planes, and the zero key, with which k0 and k1 of lines 402 and 403 end.
+pub type Keys = [Planes; 4];
 
 // a ⊕ b, block by block.
 pub fn xor(a: &Group, b: &Group) -> Group
@@ -95,7 +95,7 @@ pub fn masks(m: &[u32; 32], b: u32, power: Columns) -> Group
     r
 }
 
-// I, J and L on planes, for every block of a group. The first equation says which keys these are, and the second which words they make.
+// I, J and L on planes, for every block of a group, and zero. The first equation says which keys these are, and the second which words they make.
 pub fn keys(k: tbc::Base) -> Keys
     ensures { λ r. ⌜ (Holds (base k) r) × (r ≡ keysOf (base k)) ⌝ }
 {
@@ -103,7 +103,8 @@ pub fn keys(k: tbc::Base) -> Keys
     let i = planes::copies(b[0]);
     let j = planes::copies(b[1]);
     let l = planes::copies(b[2]);
-    [i, j, l]
+    let z = [0u64; 32];
+    [i, j, l, z]
 }
 
 // AES4 of each block, on planes. The first key is zero: masks are added before.
@@ -117,17 +118,17 @@ fn aes4(k1: &Planes, k2: &Planes, k3: &Planes, k4: &Planes, g: &Group) -> Group
 
 // AES4 of each block under k0, k1 and k2 of lines 402 and 403.
 pub fn under0(k: &Keys, g: &Group) -> Group
+    requires { ⌜ EndsInZero (now k) ⌝ }
     ensures { λ r. ⌜ r ≡ AES4s (λ i. k0 (keyFor (now (k .entry)) i)) (now (g .entry)) ⌝ }
 {
-    let z = [0u64; 32];
-    aes4(&k[0], &k[1], &k[2], &z, g)
+    aes4(&k[0], &k[1], &k[2], &k[3], g)
 }
 
 pub fn under1(k: &Keys, g: &Group) -> Group
+    requires { ⌜ EndsInZero (now k) ⌝ }
     ensures { λ r. ⌜ r ≡ AES4s (λ i. k1 (keyFor (now (k .entry)) i)) (now (g .entry)) ⌝ }
 {
-    let z = [0u64; 32];
-    aes4(&k[1], &k[2], &k[0], &z, g)
+    aes4(&k[1], &k[2], &k[0], &k[3], g)
 }
 
 pub fn under2(k: &Keys, g: &Group) -> Group

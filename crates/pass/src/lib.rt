@@ -11,7 +11,7 @@ ghost use Rattle.paper.specs.Section7.{twoTo};
 ghost use Rattle.paper.specs.Figure6.{row, k0, k1, k2, E};
 ghost use Rattle.columns.specs.Columns.{columnsOf, blockOf};
 ghost use Rattle.tbc.specs.Meaning.{base, OfJ, rowOf, Plain};
-ghost use Rattle.groups.specs.Groups.{each, entry, AES4s, keyFor, Holds};
+ghost use Rattle.groups.specs.Groups.{each, entry, AES4s, keyFor, EndsInZero, Holds};
 ghost use Rattle.pass.specs.Pairs.{firstX, firstPair, secondY, secondPair, summand, newPair, pairSum, paired, WholePairs, partSum, partPaired, xors, taken, HoldsBeside, HoldsFor, powerAfter};
 
 // The two passes over the pairs of blocks: line 226, and lines 232 and 233.
@@ -130,6 +130,7 @@ fn put_pairs(part: &mut [u8], a: &Group, b: &Group)
 
 // a ⊕ E(x) at the pair (0, 0), block by block.
 fn added_each(keys: &groups::Keys, a: &Group, x: &Group) -> Group
+    requires { ⌜ EndsInZero (now keys) ⌝ }
     ensures { λ r. ⌜ r ≡ xors (now (a .entry)) (AES4s (λ i. k0 (keyFor (now (keys .entry)) i)) (now (x .entry))) ⌝ }
 {
     let e = groups::under0(keys, x);
@@ -138,6 +139,7 @@ fn added_each(keys: &groups::Keys, a: &Group, x: &Group) -> Group
 
 // a ⊕ E(x) at the pairs (1, b), (1, b + 1) and so on, block by block. masks are the masks of these numbers.
 fn added_at_each(keys: &groups::Keys, masks: &Group, a: &Group, x: &Group) -> Group
+    requires { ⌜ EndsInZero (now keys) ⌝ }
     ensures { λ r. ⌜ r ≡ xors (now (a .entry)) (AES4s (λ i. k1 (keyFor (now (keys .entry)) i)) (xors (now (x .entry)) (now (masks .entry)))) ⌝ }
 {
     let masked = groups::xor(x, masks);

@@ -151,12 +151,12 @@ fn put_last(
     pass::put_two(last, cx, cy);
 }
 
-// I, J and L on planes, for a string of n bytes: zeros where it has fewer pairs than make a group, and nobody reads them.
+// The keys on planes, for a string of n bytes: zeros where it has fewer pairs than make a group, and nobody reads them.
 fn keys_for(k: tbc::Base, n: usize) -> groups::Keys
     ensures { λ r. ⌜ (HoldsFor n (base k) r) × (r ≡ keysFor n (base k)) ⌝ }
 {
     if n < 160 {
-        return [[0u64; 32]; 3];
+        return [[0u64; 32]; 4];
     }
     groups::keys(k)
 }

@@ -3,6 +3,7 @@ use mathlib.Core.List.{List, [], _∷_, map}
 use mathlib.Core.Path.{_≡_, refl, ap, _∙_}
 use Prim.Native.Nat.{ℕ, _<_}
 use borrow.Author.Needs.{needs}
+use lib.ListN.{replicate}
 use Rattle.paper.specs.Strings.{Bytes, Block}
 use Rattle.columns.specs.Columns.{columnsOf, blockOf}
 use Rattle.columns.proofs.Conversions.{made}
@@ -42,12 +43,15 @@ returns c =
     let is-i = column c 0 (K .I) refl in
     let is-j = column c 1 (K .J) refl in
     let is-l = column c 2 (K .L) refl in (
-      λ n b t. record {
-        I = held _ (i .result) (K .I) (bytes .I) is-i (i .ensures .0) n b t;
-        J = held _ (j .result) (K .J) (bytes .J) is-j (j .ensures .0) n b t;
-        L = held _ (l .result) (K .L) (bytes .L) is-l (l .ensures .0) n b t;
-      },
-      λ t. (i .ensures .1 ∙ ap copied is-i) t ∷ (j .ensures .1 ∙ ap copied is-j) t ∷ (l .ensures .1 ∙ ap copied is-l) t ∷ [],
+      (
+        λ n b t. record {
+          I = held _ (i .result) (K .I) (bytes .I) is-i (i .ensures .0) n b t;
+          J = held _ (j .result) (K .J) (bytes .J) is-j (j .ensures .0) n b t;
+          L = held _ (l .result) (K .L) (bytes .L) is-l (l .ensures .0) n b t;
+        },
+        refl,
+      ),
+      λ t. (i .ensures .1 ∙ ap copied is-i) t ∷ (j .ensures .1 ∙ ap copied is-j) t ∷ (l .ensures .1 ∙ ap copied is-l) t ∷ replicate 32 0 ∷ [],
     )
 
 pub keys-spec : {M : Type 1} → statement M

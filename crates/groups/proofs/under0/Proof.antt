@@ -16,7 +16,7 @@ unfolding keyFor
 returns c =
     let a = start c .args in
     let w = a .k .now in
-    c .aes4 .ensures ∙ ended (λ Z i. zeros ∷ keyFor w i .I ∷ keyFor w i .J ∷ keyFor w i .L ∷ Z ∷ []) (a .g .now)
+    c .aes4 .ensures ∙ ended (λ Z i. zeros ∷ keyFor w i .I ∷ keyFor w i .J ∷ keyFor w i .L ∷ Z ∷ []) w (a .g .now) (start c .pre)
 
 pub under0-spec : {M : Type 1} → statement M
-under0-spec = tie.close (tie.spec (λ c. search needs) (λ c. search needs) (λ c. search needs) (λ c κs. search needs) returns)
+under0-spec = tie.close (tie.spec (λ c. search needs) (λ c. search needs) (λ c. search needs) (λ c. search needs) (λ c κs. search needs) returns)

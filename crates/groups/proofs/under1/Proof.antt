@@ -16,7 +16,7 @@ unfolding keyFor
 returns c =
     let a = start c .args in
     let w = a .k .now in
-    c .aes4 .ensures ∙ ended (λ Z i. zeros ∷ keyFor w i .J ∷ keyFor w i .L ∷ keyFor w i .I ∷ Z ∷ []) (a .g .now)
+    c .aes4 .ensures ∙ ended (λ Z i. zeros ∷ keyFor w i .J ∷ keyFor w i .L ∷ keyFor w i .I ∷ Z ∷ []) w (a .g .now) (start c .pre)
 
 pub under1-spec : {M : Type 1} → statement M
-under1-spec = tie.close (tie.spec (λ c. search needs) (λ c. search needs) (λ c. search needs) (λ c κs. search needs) returns)
+under1-spec = tie.close (tie.spec (λ c. search needs) (λ c. search needs) (λ c. search needs) (λ c. search needs) (λ c κs. search needs) returns)

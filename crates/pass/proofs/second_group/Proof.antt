@@ -40,8 +40,8 @@ summed c = c .before .before
 abbrev masked : tie.After-sum-at-each → tie.After-masks
 masked c = c .before .before
 
-abbrev known : tie.After-second2 → tie.After-slice-known
-known c = masked (summed (read-left (read (left-added (right-added (second (first c))))))) .before
+abbrev start : tie.After-added-each → tie.Start
+start c = masked (summed (read-left (read (left-added (right-added c))))) .before .before
 
 abbrev P : tie.Start → List ℕ
 P c = c .args .part .now
@@ -71,13 +71,13 @@ added-each-requires : tie.Need-added-each-requires
 added-each-requires c κs = search needs
 
 added-at-each-requires : tie.Need-added-at-each-requires
-added-at-each-requires c κs = search needs
+added-at-each-requires c κs = start (c .before .before .before) .pre .5 .1
 
 put-pairs-requires : tie.Need-put-pairs-requires
-put-pairs-requires c κs = known c .before .pre .2
+put-pairs-requires c κs = start (second (first c)) .pre .2
 
 sum-requires : tie.Need-sum-requires
-sum-requires c κs = omega (arith, few (known (put (c .before) .before) .before))
+sum-requires c κs = omega (arith, few (start (second (first (put (c .before) .before)))))
 
 same-length : tie.Need-same-length
 same-length c = search needs

@@ -15,8 +15,8 @@ use Rattle.wide.specs.Planes.{keysFor}
 use Rattle.wide.proofs.keys_for.Statement.{statement}
 use Rattle.wide.proofs.keys_for.Tie as tie
 
-picked : (n : ℕ) (K : Key) (t : Bool) → ltb n 160 ≡ t → keysFor n K ≡ (if t then replicate 3 (replicate 32 0) else keysOf K)
-picked n K t e = ap (λ (u : Bool). if u then replicate 3 (replicate 32 0) else keysOf K) e
+picked : (n : ℕ) (K : Key) (t : Bool) → ltb n 160 ≡ t → keysFor n K ≡ (if t then replicate 4 (replicate 32 0) else keysOf K)
+picked n K t e = ap (λ (u : Bool). if u then replicate 4 (replicate 32 0) else keysOf K) e
 
 returns : tie.Need-returns
 returns c =
