@@ -1,6 +1,6 @@
-mod Halves
 mod Moves
 mod Levels
+mod Turns
 mod Fills
 mod Groups
 mod Sixteenfold

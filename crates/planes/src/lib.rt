@@ -9,7 +9,7 @@ ghost use Rattle.paper.specs.Fips197.{bit};
 ghost use Rattle.laws.proofs.WordBits.{wordOf};
 ghost use Rattle.laws.proofs.Exchange.{lower, upper};
 ghost use Rattle.columns.specs.Columns.{blockOf};
-ghost use Rattle.planes.specs.Planes.{planeBlocks, leveled, turned, joinedBit, groupWords, columnsIn, groupOf, spreadBit, copied, upTo};
+ghost use Rattle.planes.specs.Planes.{planeBlocks, near, far, turned, joinedBit, groupWords, columnsIn, groupOf, spreadBit, copied, upTo};
 
 // Sixteen blocks on planes: word 4 p + j has bit p of each byte of row 3 - j.
 pub type Planes = [u64; 32];
@@ -31,38 +31,93 @@ fn exchanged(a: u64, b: u64, n: u32, m: u64) -> Pair
     }
 }
 
-// Words 2 i and 2 i + 1 exchange bits, and become words i and 16 + i. The lengths are left to where this is called from, and so is n: the
-// compiler puts each level in its place, with shifts by a constant.
-fn level(w: &[u64], n: u32, m: u64, r: &mut [u64])
-    requires { ⌜ n < 64 ⌝ }
-    requires { ⌜ length (now w) ≡ 32 ⌝ }
-    requires { ⌜ length (now r) ≡ 32 ⌝ }
-    ensures { λ _. ⌜ now (r .exit) ≡ leveled n m (now (w .entry)) ⌝ }
+// Four words, of which those that stand 2 apart exchange bits, and then neighbours.
+fn near_four(x: [u64; 4]) -> [u64; 4]
+    ensures { λ r. ⌜ r ≡ near 4 x ⌝ }
 {
-    let h = r.len() / 2;
+    let a = exchanged(x[2], x[0], 16, 0x0000_ffff_0000_ffff);
+    let b = exchanged(x[3], x[1], 16, 0x0000_ffff_0000_ffff);
+    let c = exchanged(b.b, a.b, 8, 0x00ff_00ff_00ff_00ff);
+    let d = exchanged(b.a, a.a, 8, 0x00ff_00ff_00ff_00ff);
+    [c.b, c.a, d.b, d.a]
+}
+
+// Eight words likewise: 4 apart, 2 apart, neighbours.
+fn far_eight(x: [u64; 8]) -> [u64; 8]
+    ensures { λ r. ⌜ r ≡ far 8 1 x ⌝ }
+{
+    let a = exchanged(x[4], x[0], 4, 0x0f0f_0f0f_0f0f_0f0f);
+    let b = exchanged(x[5], x[1], 4, 0x0f0f_0f0f_0f0f_0f0f);
+    let c = exchanged(x[6], x[2], 4, 0x0f0f_0f0f_0f0f_0f0f);
+    let d = exchanged(x[7], x[3], 4, 0x0f0f_0f0f_0f0f_0f0f);
+    let e = exchanged(c.b, a.b, 2, 0x3333_3333_3333_3333);
+    let f = exchanged(d.b, b.b, 2, 0x3333_3333_3333_3333);
+    let g = exchanged(c.a, a.a, 2, 0x3333_3333_3333_3333);
+    let h = exchanged(d.a, b.a, 2, 0x3333_3333_3333_3333);
+    let p = exchanged(f.b, e.b, 1, 0x5555_5555_5555_5555);
+    let q = exchanged(f.a, e.a, 1, 0x5555_5555_5555_5555);
+    let r = exchanged(h.b, g.b, 1, 0x5555_5555_5555_5555);
+    let s = exchanged(h.a, g.a, 1, 0x5555_5555_5555_5555);
+    [p.b, p.a, q.b, q.a, r.b, r.a, s.b, s.a]
+}
+
+// The levels between words that stand 2 and 1 apart, four neighbours in a turn.
+fn near(w: &mut [u64])
+    requires { ⌜ length (now w) ≡ 32 ⌝ }
+    ensures { λ _. ⌜ now (w .exit) ≡ near 32 (now (w .entry)) ⌝ }
+{
     let mut i: usize = 0;
-    while i < h {
-        let p = exchanged(w[2 * i + 1], w[2 * i], n, m);
-        r[i] = p.b;
-        r[h + i] = p.a;
+    while i < w.len() / 4 {
+        let x = [w[4 * i], w[4 * i + 1], w[4 * i + 2], w[4 * i + 3]];
+        let y = near_four(x);
+        w[4 * i] = y[0];
+        w[4 * i + 1] = y[1];
+        w[4 * i + 2] = y[2];
+        w[4 * i + 3] = y[3];
         i += 1;
     }
 }
 
-// The words turned over: bit 32 h + 8 c + d of word 4 a + b changes places with bit 32 h + 8 b + a of word 4 d + c. A level takes the lowest
-// binary digit of the word's number to the one of the bit's number that stands for n, and that digit to the top of the word's: after five
-// levels all five have gone over.
-fn turned(w: Planes) -> Planes
-    ensures { λ r. ⌜ r ≡ turned w ⌝ }
+// The levels between words that stand 16, 8 and 4 apart, eight words 4 apart in a turn.
+fn far(w: &mut [u64])
+    requires { ⌜ length (now w) ≡ 32 ⌝ }
+    ensures { λ _. ⌜ now (w .exit) ≡ far 32 4 (now (w .entry)) ⌝ }
 {
-    let mut a = [0u64; 32];
-    let mut b = [0u64; 32];
-    level(&w, 8, 0x00ff_00ff_00ff_00ff, &mut a);
-    level(&a, 16, 0x0000_ffff_0000_ffff, &mut b);
-    level(&b, 1, 0x5555_5555_5555_5555, &mut a);
-    level(&a, 2, 0x3333_3333_3333_3333, &mut b);
-    level(&b, 4, 0x0f0f_0f0f_0f0f_0f0f, &mut a);
-    a
+    let mut i: usize = 0;
+    while i < w.len() / 8 {
+        let x = [
+            w[i],
+            w[i + 4],
+            w[i + 8],
+            w[i + 12],
+            w[i + 16],
+            w[i + 20],
+            w[i + 24],
+            w[i + 28],
+        ];
+        let y = far_eight(x);
+        w[i] = y[0];
+        w[i + 4] = y[1];
+        w[i + 8] = y[2];
+        w[i + 12] = y[3];
+        w[i + 16] = y[4];
+        w[i + 20] = y[5];
+        w[i + 24] = y[6];
+        w[i + 28] = y[7];
+        i += 1;
+    }
+}
+
+// The words turned over, in place: bit 32 h + 8 c + d of word 4 a + b changes places with bit 32 h + 8 b + a of word 4 d + c. In a level words
+// that stand a power of 2 apart exchange bits: one binary digit of the word's number changes places with the one of the bit's number that
+// stands for n. After five levels all five have. The length is left to where this is called from, so that the compiler makes vectors of
+// `far`.
+fn turn(w: &mut [u64])
+    requires { ⌜ length (now w) ≡ 32 ⌝ }
+    ensures { λ _. ⌜ now (w .exit) ≡ turned (now (w .entry)) ⌝ }
+{
+    near(w);
+    far(w);
 }
 
 fn wide(x: u32) -> u64
@@ -127,15 +182,17 @@ fn blocks(w: Planes) -> [Columns; 16]
 pub fn of_blocks(g: &[Columns; 16]) -> Planes
     ensures { λ r. ⌜ (planeBlocks r ≡ map (λ b. blockOf (getD (now (g .entry)) b [])) (upTo 16)) × (r ≡ turned (groupWords (now (g .entry)))) ⌝ }
 {
-    let w = words(g);
-    turned(w)
+    let mut w = words(g);
+    turn(&mut w);
+    w
 }
 
 // The sixteen blocks that stand on planes, and which columns they are.
 pub fn to_blocks(q: Planes) -> [Columns; 16]
     ensures { λ r. ⌜ (map blockOf r ≡ planeBlocks q) × (r ≡ groupOf (turned q)) ⌝ }
 {
-    let w = turned(q);
+    let mut w = q;
+    turn(&mut w);
     blocks(w)
 }
 

@@ -8,10 +8,11 @@ use Rattle.planes.proofs.of_blocks.Tie as tie
 
 returns : tie.Need-returns
 returns c =
-    let g = c .before .before .args .g .now in
-    let w = c .before .words in
-    let q = c .turned in
-    (on-planes g (w .result) (q .result) (w .ensures) (q .ensures), q .ensures ∙ ap turned (w .ensures))
+    let q = c .before .turn in
+    let filled : tie.After-words = c .before .before .before in
+    let w = filled .words in
+    let g = filled .before .args .g .now in
+    (on-planes g (w .result) (q .last .0) (w .ensures) (q .ensures), q .ensures ∙ ap turned (w .ensures))
 
 pub of-blocks-spec : {M : Type 1} → statement M
-of-blocks-spec = tie.close (tie.spec (λ c κs. search needs) (λ c κs. search needs) returns)
+of-blocks-spec = tie.close (tie.spec (λ c κs. search needs) (λ c. search needs) (λ c κs. search needs) returns)

@@ -8,10 +8,11 @@ use Rattle.planes.proofs.to_blocks.Tie as tie
 
 returns : tie.Need-returns
 returns c =
-    let q = c .before .before .args .q in
-    let w = c .before .turned in
     let r = c .blocks2 in
-    (off-planes q (w .result) (r .result) (w .ensures) (r .ensures), r .ensures ∙ ap groupOf (w .ensures))
+    let back : tie.After-turn = c .before .before in
+    let w = back .turn in
+    let q = back .before .before .args .q in
+    (off-planes q (w .last .0) (r .result) (w .ensures) (r .ensures), r .ensures ∙ ap groupOf (w .ensures))
 
 pub to-blocks-spec : {M : Type 1} → statement M
-to-blocks-spec = tie.close (tie.spec (λ c κs. search needs) (λ c κs. search needs) returns)
+to-blocks-spec = tie.close (tie.spec (λ c. search needs) (λ c κs. search needs) (λ c κs. search needs) returns)
