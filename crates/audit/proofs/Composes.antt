@@ -9,8 +9,8 @@ use Rattle.paper.specs.Figure5.{encipherTiny, decipherTiny, core}
 use Rattle.laws.proofs.KeyBlocks.{KeyBytes, E-block}
 use Rattle.laws.proofs.Tiny.{decipher-encipherTiny, encipher-decipherTiny}
 use Rattle.laws.proofs.CoreInverse.{core-core}
-use Rattle.tbc.specs.Meaning.{blocks}
-use Rattle.tbc.specs.declared.Key.{Key}
+use Rattle.key.specs.Meaning.{blocks}
+use Rattle.key.specs.declared.Key.{Key}
 use Rattle.wide.specs.Ways.{firstOf, secondOf}
 use Rattle.wide.specs.declared.Way.{Way}
 use Rattle.wide.specs.declared.Way.the-variants.{Encipher, Decipher}

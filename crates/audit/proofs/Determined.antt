@@ -26,8 +26,8 @@ use Rattle.day_steps.specs.Walks.{recordOf, RecordStep, HeadersWalk}
 use Rattle.day_list.specs.declared.Listed.{Listed}
 use Rattle.day_list.specs.Lists.{listingAs}
 use Rattle.columns.specs.Columns.{columnsOf}
-use Rattle.tbc.specs.declared.Key.{Key}
-use Rattle.tbc.specs.Meaning.{blocks, Kept}
+use Rattle.key.specs.declared.Key.{Key}
+use Rattle.key.specs.Meaning.{blocks, Kept}
 use Rattle.multiples.specs.Eight.{multiples}
 use Rattle.circuit.specs.Planes.{lane}
 use Rattle.sub_bytes.specs.Planes.{crossedBytes}
@@ -52,19 +52,26 @@ use Rattle.columns.proofs.xor.Reads as columns-xor
 use Rattle.columns.proofs.double.Reads as columns-double
 use Rattle.sub_bytes.proofs.sub_bytes.Reads as sub-bytes-sub-bytes
 use Rattle.sub_bytes.proofs.crossed.Reads as sub-bytes-crossed
-use Rattle.tbc.proofs.keys0.Reads as tbc-keys0
 use Rattle.aes.proofs.aes4.Reads as aes-aes4
 use Rattle.aes.proofs.aes10.Reads as aes-aes10
 use Rattle.multiples.proofs.multiples.Reads as multiples-multiples
 use Rattle.multiples.proofs.multiple.Reads as multiples-multiple
-use Rattle.tbc.proofs.key_of.Reads as tbc-key-of
-use Rattle.tbc.proofs.Pair.table.Reads as tbc-pair-table
-use Rattle.tbc.proofs.Pair.at.Reads as tbc-pair-at
-use Rattle.tbc.proofs.Pair.string.Reads as tbc-pair-string
-use Rattle.tbc.proofs.Key.base.Reads as tbc-key-base
-use Rattle.tbc.proofs.Key.multiples.Reads as tbc-key-multiples
-use Rattle.tbc.proofs.Key.row_mask.Reads as tbc-key-row-mask
+use Rattle.pairs.proofs.Pair.table.Reads as pairs-table
+use Rattle.pairs.proofs.Pair.at.Reads as pairs-at
+use Rattle.pairs.proofs.Pair.string.Reads as pairs-string
+use Rattle.masks.proofs.next_power.Reads as masks-next-power
+use Rattle.masks.proofs.running_mask.Reads as masks-running-mask
+use Rattle.tbc.proofs.base_of.Reads as tbc-base-of
 use Rattle.tbc.proofs.Base.power.Reads as tbc-base-power
+use Rattle.tbc.proofs.e.Reads as tbc-e
+use Rattle.tbc.proofs.e_running.Reads as tbc-e-running
+use Rattle.tbc.proofs.Base.blocks.Reads as tbc-base-blocks
+use Rattle.tbc.proofs.keys0.Reads as tbc-keys0
+use Rattle.tbc.proofs.keys_adding.Reads as tbc-keys-adding
+use Rattle.key.proofs.key_of.Reads as key-key-of
+use Rattle.key.proofs.Key.base.Reads as key-base
+use Rattle.key.proofs.Key.multiples.Reads as key-multiples
+use Rattle.key.proofs.Key.row_mask.Reads as key-row-mask
 use Rattle.planes.proofs.of_blocks.Reads as planes-of-blocks
 use Rattle.planes.proofs.to_blocks.Reads as planes-to-blocks
 use Rattle.planes.proofs.copies.Reads as planes-copies
@@ -79,8 +86,6 @@ use Rattle.rows.proofs.mixed.Reads as rows-mixed
 use Rattle.sixteen.proofs.round.Reads as sixteen-round
 use Rattle.sixteen.proofs.rounds4.Reads as sixteen-rounds4
 use Rattle.aes.proofs.aes4_columns.Reads as aes-aes4-columns
-use Rattle.tbc.proofs.running_mask.Reads as tbc-running-mask
-use Rattle.tbc.proofs.keys_adding.Reads as tbc-keys-adding
 use Rattle.groups.proofs.xor.Reads as groups-xor
 use Rattle.groups.proofs.load.Reads as groups-load
 use Rattle.groups.proofs.sum.Reads as groups-sum
@@ -92,10 +97,6 @@ use Rattle.groups.proofs.under2.Reads as groups-under2
 use Rattle.pass.proofs.added.Reads as pass-added
 use Rattle.pass.proofs.put_two.Reads as pass-put-two
 use Rattle.pass.proofs.all_pairs.Reads as pass-all-pairs
-use Rattle.tbc.proofs.Base.blocks.Reads as tbc-base-blocks
-use Rattle.tbc.proofs.e.Reads as tbc-e
-use Rattle.tbc.proofs.e_running.Reads as tbc-e-running
-use Rattle.tbc.proofs.next_power.Reads as tbc-next-power
 use Rattle.answer.proofs.StretchBytes.bits.Reads as answer-bits
 use Rattle.header.proofs.entry.Reads as header-entry
 use Rattle.header.proofs.count.Reads as header-count
@@ -346,31 +347,32 @@ multiples-multiples-determined κs a z w e f p q = one p q
 pub multiples-multiple-determined : (κs : _) (a : _) (z w : _) (e f : _) → multiples-multiple.Learnt κs a z e → multiples-multiple.Learnt κs a w f → z ≡ w
 multiples-multiple-determined κs a z w e f p q = one p q
 
+-- ---- Index pairs: `pairs`
+
+pub pairs-table-determined : (κs : _) (a : _) (z w : _) (e f : _) → pairs-table.Learnt κs a z e → pairs-table.Learnt κs a w f → z ≡ w
+pairs-table-determined κs a z w e f p q = one p q
+
+pub pairs-at-determined : (κs : _) (a : _) (z w : _) (e f : _) → pairs-at.Learnt κs a z e → pairs-at.Learnt κs a w f → z ≡ w
+pairs-at-determined κs a z w e f p q = one p q
+
+pub pairs-string-determined : (κs : _) (a : _) (z w : _) (e f : _) → pairs-string.Learnt κs a z e → pairs-string.Learnt κs a w f → z ≡ w
+pairs-string-determined κs a z w e f p q = one p q
+
+-- ---- The mask of a number that counts: `masks`
+
+pub masks-next-power-determined : (κs : _) (a : _) (z w : _) (e f : _) → masks-next-power.Learnt κs a z e → masks-next-power.Learnt κs a w f → z ≡ w
+masks-next-power-determined κs a z w e f p q = one p q
+
+pub masks-running-mask-determined : (κs : _) (a : _) (z w : _) (e f : _) → masks-running-mask.Learnt κs a z e → masks-running-mask.Learnt κs a w f → z ≡ w
+masks-running-mask-determined κs a z w e f p q = one p q
+
 -- ---- The block function: `tbc`
 
-pub tbc-key-of-determined : (κs : _) (a : _) (z w : _) (e f : _) → tbc-key-of.Learnt κs a z e → tbc-key-of.Learnt κs a w f → z ≡ w
-tbc-key-of-determined κs a z w e f p q = one-key z w _ (p .0) (p .1) (q .0) (q .1)
-
-pub tbc-key-base-determined : (κs : _) (a : _) (z w : _) (e f : _) → tbc-key-base.Learnt κs a z e → tbc-key-base.Learnt κs a w f → z ≡ w
-tbc-key-base-determined κs a z w e f p q = one p q
-
-pub tbc-key-multiples-determined : (κs : _) (a : _) (z w : _) (e f : _) → tbc-key-multiples.Learnt κs a z e → tbc-key-multiples.Learnt κs a w f → z ≡ w
-tbc-key-multiples-determined κs a z w e f p q = one p q
-
-pub tbc-key-row-mask-determined : (κs : _) (a : _) (z w : _) (e f : _) → tbc-key-row-mask.Learnt κs a z e → tbc-key-row-mask.Learnt κs a w f → z ≡ w
-tbc-key-row-mask-determined κs a z w e f p q = one p q
+pub tbc-base-of-determined : (κs : _) (a : _) (z w : _) (e f : _) → tbc-base-of.Learnt κs a z e → tbc-base-of.Learnt κs a w f → z ≡ w
+tbc-base-of-determined κs a z w e f p q = one p q
 
 pub tbc-base-power-determined : (κs : _) (a : _) (z w : _) (e f : _) → tbc-base-power.Learnt κs a z e → tbc-base-power.Learnt κs a w f → z ≡ w
 tbc-base-power-determined κs a z w e f p q = one p q
-
-pub tbc-pair-table-determined : (κs : _) (a : _) (z w : _) (e f : _) → tbc-pair-table.Learnt κs a z e → tbc-pair-table.Learnt κs a w f → z ≡ w
-tbc-pair-table-determined κs a z w e f p q = one p q
-
-pub tbc-pair-at-determined : (κs : _) (a : _) (z w : _) (e f : _) → tbc-pair-at.Learnt κs a z e → tbc-pair-at.Learnt κs a w f → z ≡ w
-tbc-pair-at-determined κs a z w e f p q = one p q
-
-pub tbc-pair-string-determined : (κs : _) (a : _) (z w : _) (e f : _) → tbc-pair-string.Learnt κs a z e → tbc-pair-string.Learnt κs a w f → z ≡ w
-tbc-pair-string-determined κs a z w e f p q = one p q
 
 pub tbc-e-determined : (κs : _) (a : _) (z w : _) (e f : _) → tbc-e.Learnt κs a z e → tbc-e.Learnt κs a w f → z ≡ w
 tbc-e-determined κs a z w e f p q = one p q
@@ -378,20 +380,28 @@ tbc-e-determined κs a z w e f p q = one p q
 pub tbc-e-running-determined : (κs : _) (a : _) (z w : _) (e f : _) → tbc-e-running.Learnt κs a z e → tbc-e-running.Learnt κs a w f → z ≡ w
 tbc-e-running-determined κs a z w e f p q = one p q
 
-pub tbc-next-power-determined : (κs : _) (a : _) (z w : _) (e f : _) → tbc-next-power.Learnt κs a z e → tbc-next-power.Learnt κs a w f → z ≡ w
-tbc-next-power-determined κs a z w e f p q = one p q
-
 pub tbc-base-blocks-determined : (κs : _) (a : _) (z w : _) (e f : _) → tbc-base-blocks.Learnt κs a z e → tbc-base-blocks.Learnt κs a w f → z ≡ w
 tbc-base-blocks-determined κs a z w e f p q = one p q
-
-pub tbc-running-mask-determined : (κs : _) (a : _) (z w : _) (e f : _) → tbc-running-mask.Learnt κs a z e → tbc-running-mask.Learnt κs a w f → z ≡ w
-tbc-running-mask-determined κs a z w e f p q = one p q
 
 pub tbc-keys0-determined : (κs : _) (a : _) (z w : _) (e f : _) → tbc-keys0.Learnt κs a z e → tbc-keys0.Learnt κs a w f → z ≡ w
 tbc-keys0-determined κs a z w e f p q = one p q
 
 pub tbc-keys-adding-determined : (κs : _) (a : _) (z w : _) (e f : _) → tbc-keys-adding.Learnt κs a z e → tbc-keys-adding.Learnt κs a w f → z ≡ w
 tbc-keys-adding-determined κs a z w e f p q = one p q
+
+-- ---- The key record: `key`
+
+pub key-key-of-determined : (κs : _) (a : _) (z w : _) (e f : _) → key-key-of.Learnt κs a z e → key-key-of.Learnt κs a w f → z ≡ w
+key-key-of-determined κs a z w e f p q = one-key z w _ (p .0) (p .1) (q .0) (q .1)
+
+pub key-base-determined : (κs : _) (a : _) (z w : _) (e f : _) → key-base.Learnt κs a z e → key-base.Learnt κs a w f → z ≡ w
+key-base-determined κs a z w e f p q = one p q
+
+pub key-multiples-determined : (κs : _) (a : _) (z w : _) (e f : _) → key-multiples.Learnt κs a z e → key-multiples.Learnt κs a w f → z ≡ w
+key-multiples-determined κs a z w e f p q = one p q
+
+pub key-row-mask-determined : (κs : _) (a : _) (z w : _) (e f : _) → key-row-mask.Learnt κs a z e → key-row-mask.Learnt κs a w f → z ≡ w
+key-row-mask-determined κs a z w e f p q = one p q
 
 -- ---- Groups of blocks: `groups`
 

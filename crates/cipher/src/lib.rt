@@ -5,11 +5,11 @@ ghost use mathlib.Core.Path.{_≡_};
 ghost use Prim.Native.Nat.{_-_, _≤_};
 ghost use lib.ListN.{length, replicate};
 ghost use Rattle.paper.specs.Figure6.{E};
-ghost use Rattle.tbc.specs.Meaning.{blocks, Kept};
+ghost use Rattle.key.specs.Meaning.{blocks, Kept};
 ghost use Rattle.cipher.specs.Under.{ciphered, encryptUnder, decryptUnder, opens, leaves};
 
 // Lines 200 to 202, either way.
-fn cipher_in_place(k: tbc::Key, delta: [u8; 16], way: Way, s: &mut [u8])
+fn cipher_in_place(k: key::Key, delta: [u8; 16], way: Way, s: &mut [u8])
     requires { ⌜ (Kept k) × (1 ≤ length (now s)) × (length (now s) ≤ 65536) ⌝ }
     ensures { λ _. ⌜ now (s .exit) ≡ ciphered way (E (blocks k)) delta (now (s .entry)) ⌝ }
 {
@@ -24,7 +24,7 @@ fn cipher_in_place(k: tbc::Key, delta: [u8; 16], way: Way, s: &mut [u8])
 }
 
 // Lines 100 to 103, put into out, which is longer than the text by the stretch.
-pub fn encrypt(k: tbc::Key, delta: [u8; 16], text: &[u8], out: &mut [u8])
+pub fn encrypt(k: key::Key, delta: [u8; 16], text: &[u8], out: &mut [u8])
     requires { ⌜ (Kept k) × (length (now text) ≤ length (now out)) × (length (now out) ≤ 65536) × (length (now out) - length (now text) ≤ 64) ⌝ }
     ensures { λ _. ⌜ now (out .exit) ≡ encryptUnder (E (blocks k)) delta (length (now (out .entry)) - length (now (text .entry))) (now (text .entry)) ⌝ }
 {
@@ -40,7 +40,7 @@ pub fn encrypt(k: tbc::Key, delta: [u8; 16], text: &[u8], out: &mut [u8])
 
 // Lines 112 and 113: a sealed string of the stretch's length, which only the empty text can seal to. out, as long, ends as zeros, whether the
 // check held or not.
-fn decrypt_empty(k: tbc::Key, delta: [u8; 16], sealed: &[u8], out: &mut [u8]) -> bool
+fn decrypt_empty(k: key::Key, delta: [u8; 16], sealed: &[u8], out: &mut [u8]) -> bool
     requires { ⌜ (Kept k) × (length (now sealed) ≡ length (now out)) × (length (now out) ≤ 64) ⌝ }
     ensures { λ r. ⌜ (r ≡ opens (decryptUnder (E (blocks k)) delta (length (now (sealed .entry))) (now (sealed .entry)))) × (now (out .exit) ≡ replicate (length (now (out .entry))) 0) ⌝ }
 {
@@ -52,7 +52,7 @@ fn decrypt_empty(k: tbc::Key, delta: [u8; 16], sealed: &[u8], out: &mut [u8]) ->
 
 // Lines 110 to 115, put into out, which is as long as the sealed string: the text and as many zeros as the stretch, or zeros where the
 // check fails. Whether it held is returned.
-pub fn decrypt(k: tbc::Key, delta: [u8; 16], stretch: usize, sealed: &[u8], out: &mut [u8]) -> bool
+pub fn decrypt(k: key::Key, delta: [u8; 16], stretch: usize, sealed: &[u8], out: &mut [u8]) -> bool
     requires { ⌜ (Kept k) × (length (now sealed) ≡ length (now out)) × (length (now out) ≤ 65536) × (stretch ≤ length (now out)) × (stretch ≤ 64) ⌝ }
     ensures { λ r. ⌜ (r ≡ opens (decryptUnder (E (blocks k)) delta stretch (now (sealed .entry)))) × (now (out .exit) ≡ leaves (decryptUnder (E (blocks k)) delta stretch (now (sealed .entry))) stretch (length (now (sealed .entry)))) ⌝ }
 {

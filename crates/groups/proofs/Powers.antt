@@ -13,7 +13,7 @@ use Rattle.laws.proofs.Multiples.{twoTo-zero, twoTo-suc}
 use Rattle.laws.proofs.KeyBlocks.{twoTo-block}
 use Rattle.columns.specs.Columns.{columnsOf, blockOf}
 use Rattle.columns.proofs.Conversions.{columns-block}
-use Rattle.tbc.specs.Meaning.{nextPower}
+use Rattle.masks.specs.Powers.{nextPower}
 
 pub twoTo-more : (d e : ℕ) (X : Bytes) → twoTo d (twoTo e X) ≡ twoTo (d + e) X
 twoTo-more zero e X = twoTo-zero (twoTo e X) ∙ ap (λ (n : ℕ). twoTo n X) (sym (zero-add e))

@@ -85,9 +85,9 @@ pub fn masks(m: &[u32; 32], b: u32, power: Columns) -> Group
     let mut n = b;
     let mut i: usize = 0;
     while i < 16 {
-        let x = tbc::running_mask(m, n, p);
+        let x = masks::running_mask(m, n, p);
         r[i] = x;
-        let next = tbc::next_power(n, p);
+        let next = masks::next_power(n, p);
         p = next;
         n += 1;
         i += 1;

@@ -7,13 +7,13 @@ ghost use Prim.Native.Nat.{_≤_, min};
 ghost use lib.ListN.{length};
 ghost use Rattle.paper.specs.Figure6.{E, prfFrom};
 ghost use Rattle.paper.specs.Document01.{readHeader};
-ghost use Rattle.tbc.specs.Meaning.{blocks, Kept};
+ghost use Rattle.key.specs.Meaning.{blocks, Kept};
 ghost use Rattle.hash.specs.Delta.{deltaOf};
 ghost use Rattle.hash.specs.Fitted.{fitted};
 
 // Lines 300 to 307: Δ of the tweak that holds the stretch and the strings of a header, or zero for a header that does not read. One walk
 // tests the entries and hashes their strings, each of which is lent from where it begins in the header.
-pub fn delta(k: tbc::Key, stretch: StretchBits, h: &[u8]) -> [u8; 16]
+pub fn delta(k: key::Key, stretch: StretchBits, h: &[u8]) -> [u8; 16]
     requires { ⌜ Kept k ⌝ }
     ensures { λ r. ⌜ r ≡ deltaOf (E (blocks k)) (stretch .0) (readHeader (now (h .entry))) ⌝ }
 {
@@ -67,7 +67,7 @@ fn put_front(s: &mut [u8], y: [u8; 16])
 }
 
 // Line 312: out is filled with the blocks E(Δ), E(Δ ⊕ [1]), .., the last one cut.
-pub fn prf(k: tbc::Key, delta: [u8; 16], out: &mut [u8])
+pub fn prf(k: key::Key, delta: [u8; 16], out: &mut [u8])
     requires { ⌜ (Kept k) × (length (now out) ≤ 64) ⌝ }
     ensures { λ _. ⌜ now (out .exit) ≡ prfFrom (E (blocks k)) delta (length (now (out .entry))) ⌝ }
 {
@@ -78,7 +78,7 @@ pub fn prf(k: tbc::Key, delta: [u8; 16], out: &mut [u8])
     while at < out.len() {
         let n = block::number(i);
         let x = block::xor(delta, n);
-        let y = tbc::e(b, &m, tbc::Pair::PRF, x);
+        let y = tbc::e(b, &m, pairs::Pair::PRF, x);
         put_front(&mut out[at..], y);
         at += 16;
         i += 1;

@@ -4,9 +4,9 @@ use mathlib.Core.Path.{_≡_, _∙_}
 use Prim.Native.Nat.{ℕ}
 use Rattle.paper.specs.Strings.{Bytes}
 use Rattle.paper.specs.Figure6.{Key, row, E}
-use Rattle.tbc.specs.Meaning.{pair, rowOf}
-use Rattle.tbc.specs.declared.Pair.{Pair}
-use Rattle.tbc.proofs.Pairs.{at-pair}
+use Rattle.pairs.specs.Meaning.{pair, rowOf}
+use Rattle.pairs.specs.declared.Pair.{Pair}
+use Rattle.pairs.proofs.Pairs.{at-pair}
 
 -- a pair of a row whose second index counts
 pub at-row : (p : Pair) (i j : ℕ) → p ≡ pair false i j → (K : Key) (r X : Bytes) → r ≡ E K (rowOf p) (p .2) X → r ≡ E K (row i) j X

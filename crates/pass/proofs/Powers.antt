@@ -8,8 +8,8 @@ use native.Mathlib.Omega.{arith}
 use Rattle.paper.specs.Strings.{Bytes, Block}
 use Rattle.paper.specs.Section7.{twoTo}
 use Rattle.columns.specs.Columns.{columnsOf}
-use Rattle.tbc.specs.Meaning.{nextPower}
-use Rattle.tbc.proofs.Powers.{next}
+use Rattle.masks.specs.Powers.{nextPower}
+use Rattle.masks.proofs.Powers.{next}
 use Rattle.pass.specs.Pairs.{powerAfter}
 
 pub after-none : (b : ℕ) (power : List ℕ) → power ≡ powerAfter b 0 power

@@ -8,7 +8,7 @@ use Rattle.paper.specs.Strings.{Bytes, if_then_else_, _⊕_, sum, join}
 use Rattle.paper.specs.Figure6.{row, BlockFunction, Key}
 use Rattle.paper.specs.Figure5.{pairs}
 use Rattle.columns.specs.Columns.{columnsOf, blockOf}
-use Rattle.tbc.specs.Meaning.{nextPower}
+use Rattle.masks.specs.Powers.{nextPower}
 use Rattle.groups.specs.Groups.{each, entry, Holds}
 use Rattle.pass.specs.declared.Pass.{Pass}
 use Rattle.pass.specs.declared.Pass.the-variants.{First, Second}

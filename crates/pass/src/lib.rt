@@ -10,7 +10,8 @@ ghost use Rattle.paper.specs.Strings.{_⊕_, join};
 ghost use Rattle.paper.specs.Section7.{twoTo};
 ghost use Rattle.paper.specs.Figure6.{row, k0, k1, k2, E};
 ghost use Rattle.columns.specs.Columns.{columnsOf, blockOf};
-ghost use Rattle.tbc.specs.Meaning.{base, OfJ, rowOf, Plain};
+ghost use Rattle.pairs.specs.Meaning.{rowOf, Plain};
+ghost use Rattle.tbc.specs.Meaning.{base, OfJ};
 ghost use Rattle.groups.specs.Groups.{each, entry, AES4s, keyFor, EndsInZero, Holds};
 ghost use Rattle.pass.specs.Pairs.{firstX, firstPair, secondY, secondPair, summand, newPair, pairSum, paired, WholePairs, partSum, partPaired, xors, taken, HoldsBeside, HoldsFor, powerAfter};
 
@@ -21,7 +22,7 @@ pub enum Pass {
 }
 
 // a ⊕ E(x) at the pair p.
-pub fn added(k: tbc::Base, m: &[u32; 32], p: tbc::Pair, a: [u8; 16], x: [u8; 16]) -> [u8; 16]
+pub fn added(k: tbc::Base, m: &[u32; 32], p: pairs::Pair, a: [u8; 16], x: [u8; 16]) -> [u8; 16]
     requires { ⌜ (Plain (rowOf p) (p .2)) × OfJ k (now m) ⌝ }
     ensures { λ r. ⌜ r ≡ a ⊕ E (base k) (rowOf p) (p .2) x ⌝ }
 {
@@ -41,7 +42,7 @@ fn added_at(
     requires { ⌜ (1 ≤ b) × (power ≡ columnsOf (twoTo ((b - 1) / 8) (base k .L))) × OfJ k (now m) ⌝ }
     ensures { λ r. ⌜ r ≡ a ⊕ E (base k) (row 1) b x ⌝ }
 {
-    let p = tbc::Pair::A_I.at(b);
+    let p = pairs::Pair::A_I.at(b);
     let e = tbc::e_running(k, m, p, power, x);
     block::xor(a, e)
 }
@@ -63,7 +64,7 @@ fn first_pair(k: tbc::Base, m: &[u32; 32], b: u32, power: Columns, part: &mut [u
     let left = block::load(part, 0);
     let right = block::load(part, 16);
     let w = added_at(k, m, b, power, left, right);
-    let x = added(k, m, tbc::Pair::A, right, w);
+    let x = added(k, m, pairs::Pair::A, right, w);
     put_two(part, w, x);
     x
 }
@@ -80,13 +81,13 @@ fn second_pair(
     requires { ⌜ (1 ≤ b) × (length (now part) ≡ 32) × (power ≡ columnsOf (twoTo ((b - 1) / 8) (base k .L))) × OfJ k (now m) ⌝ }
     ensures { λ r. ⌜ (r ≡ secondY (E (base k)) sum b (now (part .entry))) × (now (part .exit) ≡ secondPair (E (base k)) sum b (now (part .entry))) ⌝ }
 {
-    let p = tbc::Pair::AA_I.at(b);
+    let p = pairs::Pair::AA_I.at(b);
     let s = tbc::e_running(k, m, p, power, sum);
     let left = block::load(part, 0);
     let right = block::load(part, 16);
     let y = block::xor(left, s);
     let z = block::xor(right, s);
-    let second = added(k, m, tbc::Pair::A, y, z);
+    let second = added(k, m, pairs::Pair::A, y, z);
     let first = added_at(k, m, b, power, z, second);
     put_two(part, first, second);
     y
@@ -271,7 +272,7 @@ fn power_after(b: u32, n: usize, power: Columns) -> Columns
     let mut at = b;
     let mut i: usize = 0;
     while i < n {
-        let next = tbc::next_power(at, p);
+        let next = masks::next_power(at, p);
         p = next;
         at += 1;
         i += 1;

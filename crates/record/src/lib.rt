@@ -99,7 +99,7 @@ pub fn seal(
             place: refused.at,
         };
     }
-    let k = tbc::key_of(key);
+    let k = key::key_of(key);
     let delta = hash::delta(k, stretch.bits(), header);
     let length = text.len() + stretch.0 as usize;
     cipher::encrypt(k, delta, text, &mut out[0..length]);
@@ -128,7 +128,7 @@ pub fn open(
             place: refusal.at,
         };
     }
-    let k = tbc::key_of(key);
+    let k = key::key_of(key);
     let delta = hash::delta(k, stretch.bits(), header);
     let n = sealed.len();
     let t = stretch.0 as usize;

@@ -9,7 +9,8 @@ ghost use Rattle.paper.specs.Section7.{AES4};
 ghost use Rattle.paper.specs.Figure6.{k0, E, hashString};
 ghost use Rattle.columns.specs.Columns.{blockOf};
 ghost use Rattle.multiples.specs.Eight.{multiples, fourAt};
-ghost use Rattle.tbc.specs.Meaning.{blocks, base, baseOf, Kept, OfJ};
+ghost use Rattle.tbc.specs.Meaning.{base, baseOf, OfJ};
+ghost use Rattle.key.specs.Meaning.{blocks, Kept};
 ghost use Rattle.strings.specs.Waiting.{addedUp, nothing, Fits, soFar, fullTerm, shortTerm};
 
 // From how many blocks on a group is worked on as one: for fewer, AES4 of each by itself is quicker.
@@ -98,7 +99,7 @@ fn with_mask(x: [u8; 16], mask: Columns) -> Columns
 fn masked(m: &[u32; 32], j: u32, power: Columns, mask: Columns, x: [u8; 16]) -> Columns
     ensures { λ r. ⌜ blockOf r ≡ x ⊕ (blockOf (fourAt (now (m .entry)) (4 * (j % 8))) ⊕ blockOf power ⊕ blockOf mask) ⌝ }
 {
-    let running = tbc::running_mask(m, j, power);
+    let running = masks::running_mask(m, j, power);
     let all = columns::xor(running, mask);
     with_mask(x, all)
 }
@@ -117,7 +118,7 @@ fn add_full(k: tbc::Base, m: &[u32; 32], mask: Columns, t: &[u8], g: &mut Group,
         let y = masked(m, j, power, mask, x);
         let more = add_block(k, g, hashed, y);
         hashed = more;
-        let next = tbc::next_power(j, power);
+        let next = masks::next_power(j, power);
         power = next;
         at += 16;
         j += 1;
@@ -137,7 +138,7 @@ fn add_short(k: tbc::Base, mask: Columns, last: &[u8], g: &mut Group, s: Sum) ->
 
 // Lines 303 to 306: Δ_i of the i-th string of the tweak. b and m are taken out of the key once for all strings.
 pub fn add_string(
-    k: tbc::Key,
+    k: key::Key,
     b: tbc::Base,
     m: &[u32; 32],
     i: u32,
@@ -148,7 +149,7 @@ pub fn add_string(
     requires { ⌜ (Kept k) × (b ≡ baseOf (blocks k)) × (now m ≡ multiples (blocks k .J)) × (1 ≤ i) × (i ≤ 17) × (length (now t) ≤ 1024) × Fits (now g) s ⌝ }
     ensures { λ r. ⌜ Fits (now (g .exit)) r × (soFar (blocks k) (now (g .exit)) r ≡ soFar (blocks k) (now (g .entry)) s ⊕ hashString (E (blocks k)) i (now (t .entry))) ⌝ }
 {
-    let mask = k.row_mask(tbc::Pair::HASH.string(i));
+    let mask = k.row_mask(pairs::Pair::HASH.string(i));
     let full = add_full(b, m, mask, t, g, s);
     let n = t.len();
     if n == 0 {

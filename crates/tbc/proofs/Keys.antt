@@ -1,49 +1,20 @@
--- What a function is told of a parameter that is a key: its parts are blocks, as those of a base always are. And what it takes out of a key
--- fits together.
-use mathlib.Core.List.{List, map, map-id}
-use mathlib.Core.Path.{_≡_, subst, ap, sym, _∙_}
-use Prim.Native.Nat.{ℕ}
-use mir.Val.{Val}
-use denote.Laws.{Is}
-use denote.Struct.Declared.{row}
-use Rattle.paper.specs.Strings.{Block}
+-- The parts of a base are blocks, whatever its words are; and a base that is made of blocks has these.
+use mathlib.Core.Path.{_≡_, _∙_}
 use Rattle.paper.specs.Figure6 as figure6
 use Rattle.laws.proofs.KeyBlocks.{KeyBytes}
-use Rattle.block.proofs.Arrays.{array-bytes}
 use Rattle.columns.specs.Columns.{columnsOf}
 use Rattle.columns.proofs.Conversions.{columns-block}
 use Rattle.sub_bytes.proofs.States.{crossed-bytes}
 use Rattle.aes.proofs.Blocks.{crossed-block}
-use Rattle.tbc.specs.declared.Key.{Key}
 use Rattle.tbc.specs.declared.Base.{Base}
-use Rattle.tbc.specs.Meaning.{blocks, base, baseOf, OfJ}
-use Rattle.multiples.specs.Eight.{multiples}
-use Rattle.tbc.proofs.Key as key
-
-field-bytes : (X : List ℕ) → Block (map (λ (x : ℕ). x) X) → Block X
-field-bytes X p = subst (λ (l : List ℕ). Block l) (map-id X) p
-
-pub key-bytes : (k : Key) (vs : List Val) → Is (row key.the-type) k vs → KeyBytes (blocks k)
-key-bytes k vs p =
-    let g = p .1 .1 in
-    record {
-      I = field-bytes (k .i) (array-bytes 16 _ _ (g .0));
-      J = field-bytes (k .j) (array-bytes 16 _ _ (g .1 .0));
-      L = field-bytes (k .l) (array-bytes 16 _ _ (g .1 .1 .0));
-    }
+use Rattle.tbc.specs.Meaning.{base, baseOf}
 
 pub base-bytes : (k : Base) → KeyBytes (base k)
 base-bytes k = record { I = crossed-block (k .i); J = crossed-block (k .j); L = crossed-block (k .l) }
 
--- a base that was taken out of k has its blocks
-pub has-blocks : (k : Key) (vs : List Val) → Is (row key.the-type) k vs → (b : Base) → b ≡ baseOf (blocks k) → base b ≡ blocks k
-has-blocks k vs p b e =
-    let bytes = key-bytes k vs p in
-    let I = crossed-bytes (columnsOf (k .i)) ∙ columns-block (bytes .I) in
-    let J = crossed-bytes (columnsOf (k .j)) ∙ columns-block (bytes .J) in
-    let L = crossed-bytes (columnsOf (k .l)) ∙ columns-block (bytes .L) in
-    ap base e ∙ (λ i. record { I = I i; J = J i; L = L i })
-
--- the multiples of J that were taken out of k are those of its base b
-pub of-j : (k : Key) (b : Base) (m : List ℕ) → base b ≡ blocks k → m ≡ multiples (k .j) → OfJ b m
-of-j k b m e h = h ∙ ap (λ (K : figure6.Key). multiples (K .J)) (sym e)
+pub base-baseOf : (K : figure6.Key) → KeyBytes K → base (baseOf K) ≡ K
+base-baseOf K bytes =
+    let I = crossed-bytes (columnsOf (K .I)) ∙ columns-block (bytes .I) in
+    let J = crossed-bytes (columnsOf (K .J)) ∙ columns-block (bytes .J) in
+    let L = crossed-bytes (columnsOf (K .L)) ∙ columns-block (bytes .L) in
+    λ i. record { I = I i; J = J i; L = L i }

@@ -1,5 +1,4 @@
-pub mod Masks
-pub mod Powers
-pub mod Pairs
 pub mod Keys
+pub mod Masks
+pub mod Pairs
 pub mod Adding

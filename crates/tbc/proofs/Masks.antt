@@ -1,14 +1,12 @@
--- What the calls of E have in common: the row that a pair names, and the masks of lines 404 to 409.
-use mathlib.Core.Bool.{Bool, true, false}
-use mathlib.Core.Path.{_≡_, refl, ap, ap₂, subst, _∙_}
-use Prim.Native.Nat.{ℕ, zero, suc, _-_, _*_, _/_, _%_, _≤_}
-use native.Mathlib.Omega.{arith}
+-- What the calls of E have in common: the masks of lines 404 to 406, and the keys that they stand in.
 use mathlib.Core.List.{List, _∷_}
+use mathlib.Core.Path.{_≡_, refl, ap, _∙_}
+use Prim.Native.Nat.{ℕ, _-_, _*_, _/_, _%_, _≤_}
+use native.Mathlib.Omega.{arith}
 use lib.ListN.{drop}
-use Rattle.paper.specs.Strings.{Bytes, Block, if_then_else_, _⊕_}
+use Rattle.paper.specs.Strings.{Bytes, Block, _⊕_}
 use Rattle.paper.specs.Section7.{zeros, twoTo, _·_, AES}
 use Rattle.paper.specs.Figure6 as figure6
-use Rattle.paper.specs.Figure6.{Row, minus1, row, E}
 use Rattle.laws.proofs.Digits.{⊕-block}
 use Rattle.laws.proofs.KeyBlocks.{times-block, twoTo-block}
 use Rattle.laws.proofs.Round.{AES-mask}
@@ -17,35 +15,12 @@ use Rattle.columns.proofs.Conversions.{made, sum-of}
 use Rattle.aes.specs.Steps.{keysOf}
 use Rattle.circuit.specs.Planes.{lane}
 use Rattle.sub_bytes.specs.Planes.{planeBytes, crossedBytes}
-use Rattle.tbc.specs.Meaning.{base, masked0, OfJ, rowOf, Plain, Running}
 use Rattle.multiples.specs.Eight.{fourAt}
-use Rattle.tbc.specs.declared.Base.{Base}
-use Rattle.tbc.specs.declared.Pair.{Pair}
 use Rattle.multiples.proofs.Kept.{kept}
+use Rattle.pairs.specs.declared.Pair.{Pair}
+use Rattle.tbc.specs.Meaning.{base, OfJ, masked0, Running}
+use Rattle.tbc.specs.declared.Base.{Base}
 use Rattle.tbc.proofs.Keys.{base-bytes}
-
-pub row-of : (p : Pair) (n : ℕ) → p .0 ≡ false → p .1 ≡ n → rowOf p ≡ row n
-row-of p n e f = ap₂ (λ (b : Bool) (m : ℕ). if b then minus1 else row m) e f
-
--- E of a pair that names row -1, and of one that names row n
-pub in-minus1 : (K : figure6.Key) (X : Bytes) (p : Pair) → p .0 ≡ true → E K (rowOf p) (p .2) X ≡ E K minus1 (p .2) X
-in-minus1 K X p e = ap (λ (b : Bool). E K (if b then minus1 else row (p .1)) (p .2) X) e
-
-pub in-row : (K : figure6.Key) (X : Bytes) (p : Pair) (n : ℕ) → p .0 ≡ false → p .1 ≡ n → E K (rowOf p) (p .2) X ≡ E K (row n) (p .2) X
-in-row K X p n e f = ap (λ (r : Row). E K r (p .2) X) (row-of p n e f)
-
--- a plain pair: its number is below 8, and its row is -1 or 0
-pub plain-small : (r : Row) (j : ℕ) → Plain r j → j ≤ 7
-plain-small minus1 j h = h
-plain-small (row zero) j h = h
-plain-small (row (suc i)) j h = absurd h
-
-plain-zero : (i j : ℕ) → Plain (row i) j → i ≡ 0
-plain-zero zero j h = refl
-plain-zero (suc i) j h = absurd h
-
-pub in-row-0 : (p : Pair) → Plain (rowOf p) (p .2) → p .0 ≡ false → p .1 ≡ 0
-in-row-0 p h e = plain-zero (p .1) (p .2) (subst (λ (r : Row). Plain r (p .2)) (row-of p (p .1) e refl) h)
 
 -- (j mod 8)·J ⊕ 2^floor((j - 1) / 8)·L, which `Figure6.masked` adds
 abbrev pub runningMask : Base → ℕ → Bytes

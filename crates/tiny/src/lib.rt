@@ -12,7 +12,9 @@ ghost use Rattle.paper.specs.Figure6.{E};
 ghost use Rattle.paper.specs.Figure5.{halves, joined, tinyRounds, tinyIndex, encipherTiny, decipherTiny};
 ghost use Rattle.columns.specs.Columns.{columnsOf, blockOf};
 ghost use Rattle.aes.specs.Steps.{keysOf};
-ghost use Rattle.tbc.specs.Meaning.{blocks, base, Kept, OfJ, masked0, pair};
+ghost use Rattle.pairs.specs.Meaning.{pair};
+ghost use Rattle.tbc.specs.Meaning.{base, OfJ, masked0};
+ghost use Rattle.key.specs.Meaning.{blocks, Kept};
 ghost use Rattle.tiny.specs.HalfBytes.{halfBytes, byteOf, wholeBytes, lastBytes};
 ghost use Rattle.tiny.specs.Blocks.{mark, front, blocksOf, packedBoth, firsts, blockTurn, blockTurnsUp, blockTurnsDown, frontColumn};
 
@@ -147,13 +149,13 @@ fn rounds(n: usize) -> u32
 }
 
 // Line 214: the index pair of the rounds for n bytes.
-fn pair_for(n: usize) -> tbc::Pair
+fn pair_for(n: usize) -> pairs::Pair
     ensures { λ r. ⌜ r ≡ pair false 0 (tinyIndex (8 * n)) ⌝ }
 {
     if 16 <= n {
-        return tbc::Pair::TINY;
+        return pairs::Pair::TINY;
     }
-    tbc::Pair::TINY_SHORT
+    pairs::Pair::TINY_SHORT
 }
 
 // Line 216: the keys of AES4 for the turns on n bytes. What is the same in each turn, Delta and the 1 bit of R10*, is in the first.
@@ -264,12 +266,12 @@ fn last_step(k: tbc::Base, m: &[u32; 32], delta: [u8; 16], s: &mut [u8])
     block::copy(&mut x, 0, s);
     x[0] = x[0] | 128;
     let y = block::xor(delta, x);
-    let e = tbc::e(k, m, tbc::Pair::TINY_LAST, y);
+    let e = tbc::e(k, m, pairs::Pair::TINY_LAST, y);
     s[0] = s[0] ^ (e[0] & 128);
 }
 
 // Lines 210 to 218.
-pub fn encipher(k: tbc::Key, delta: [u8; 16], s: &mut [u8])
+pub fn encipher(k: key::Key, delta: [u8; 16], s: &mut [u8])
     requires { ⌜ (Kept k) × (1 ≤ length (now s)) × (length (now s) ≤ 31) ⌝ }
     ensures { λ _. ⌜ now (s .exit) ≡ encipherTiny (E (blocks k)) delta (now (s .entry)) ⌝ }
 {
@@ -285,7 +287,7 @@ pub fn encipher(k: tbc::Key, delta: [u8; 16], s: &mut [u8])
 }
 
 // Lines 210 to 218 when deciphering: the `if` of line 217 comes first, and the turns count down.
-pub fn decipher(k: tbc::Key, delta: [u8; 16], s: &mut [u8])
+pub fn decipher(k: key::Key, delta: [u8; 16], s: &mut [u8])
     requires { ⌜ (Kept k) × (1 ≤ length (now s)) × (length (now s) ≤ 31) ⌝ }
     ensures { λ _. ⌜ now (s .exit) ≡ decipherTiny (E (blocks k)) delta (now (s .entry)) ⌝ }
 {

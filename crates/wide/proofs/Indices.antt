@@ -4,8 +4,8 @@ use Prim.Native.Nat.{_≤_}
 use native.Mathlib.Omega.{arith}
 use Rattle.paper.specs.Strings.{Bytes, _⊕_}
 use Rattle.paper.specs.Figure6.{Key, E}
-use Rattle.tbc.specs.Meaning.{rowOf, Plain}
-use Rattle.tbc.specs.declared.Pair.{Pair}
+use Rattle.pairs.specs.Meaning.{rowOf, Plain}
+use Rattle.pairs.specs.declared.Pair.{Pair}
 use Rattle.wide.specs.Ways.{firstOf, secondOf, endPairs}
 use Rattle.wide.specs.declared.EndPairs.{EndPairs}
 use Rattle.wide.specs.declared.Way.{Way}

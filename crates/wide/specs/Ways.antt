@@ -1,7 +1,7 @@
 -- The two ways: x and y of Figure 5 are 1 and 2 for enciphering, and exchanged for deciphering.
 use mathlib.Core.Bool.{true, false}
 use Prim.Native.Nat.{ℕ}
-use Rattle.tbc.specs.Meaning.{pair}
+use Rattle.pairs.specs.Meaning.{pair}
 use Rattle.wide.specs.declared.EndPairs.{EndPairs}
 use Rattle.wide.specs.declared.Way.{Way}
 use Rattle.wide.specs.declared.Way.the-variants.{Encipher, Decipher}

@@ -8,7 +8,8 @@ ghost use lib.ListN.{length};
 ghost use Rattle.paper.specs.Strings.{_⊕_};
 ghost use Rattle.paper.specs.Figure6.{E};
 ghost use Rattle.paper.specs.Figure5.{core};
-ghost use Rattle.tbc.specs.Meaning.{blocks, base, Kept, OfJ};
+ghost use Rattle.tbc.specs.Meaning.{base, OfJ};
+ghost use Rattle.key.specs.Meaning.{blocks, Kept};
 ghost use Rattle.pass.specs.Pairs.{HoldsFor};
 ghost use Rattle.wide.specs.Planes.{keysFor};
 ghost use Rattle.wide.specs.Ways.{firstOf, secondOf, endPairs};
@@ -23,10 +24,10 @@ pub enum Way {
 
 // (0, x), (-1, x), (0, y) and (-1, y) of lines 230 and 239.
 struct EndPairs {
-    x: tbc::Pair,
-    xx: tbc::Pair,
-    y: tbc::Pair,
-    yy: tbc::Pair,
+    x: pairs::Pair,
+    xx: pairs::Pair,
+    y: pairs::Pair,
+    yy: pairs::Pair,
 }
 
 fn pairs_of(way: Way) -> EndPairs
@@ -34,16 +35,16 @@ fn pairs_of(way: Way) -> EndPairs
 {
     match way {
         Way::Encipher => EndPairs {
-            x: tbc::Pair::X,
-            xx: tbc::Pair::XX,
-            y: tbc::Pair::Y,
-            yy: tbc::Pair::YY,
+            x: pairs::Pair::X,
+            xx: pairs::Pair::XX,
+            y: pairs::Pair::Y,
+            yy: pairs::Pair::YY,
         },
         Way::Decipher => EndPairs {
-            x: tbc::Pair::Y,
-            xx: tbc::Pair::YY,
-            y: tbc::Pair::X,
-            yy: tbc::Pair::XX,
+            x: pairs::Pair::Y,
+            xx: pairs::Pair::YY,
+            y: pairs::Pair::X,
+            yy: pairs::Pair::XX,
         },
     }
 }
@@ -66,12 +67,12 @@ fn with_uv(k: tbc::Base, m: &[u32; 32], total: [u8; 16], uv: &[u8]) -> [u8; 16]
     }
     if d <= 15 {
         let short = block::pad(uv);
-        return pass::added(k, m, tbc::Pair::U, total, short);
+        return pass::added(k, m, pairs::Pair::U, total, short);
     }
     let u = block::load(uv, 0);
-    let more = pass::added(k, m, tbc::Pair::U, total, u);
+    let more = pass::added(k, m, pairs::Pair::U, total, u);
     let v = block::pad(&uv[16..d]);
-    pass::added(k, m, tbc::Pair::V, more, v)
+    pass::added(k, m, pairs::Pair::V, more, v)
 }
 
 // A part of at most 16 bytes, xored with the front of e.
@@ -95,12 +96,12 @@ fn mask_uv(k: tbc::Base, m: &[u32; 32], sum: [u8; 16], uv: &mut [u8])
     if n == 0 {
         return;
     }
-    let e = tbc::e(k, m, tbc::Pair::UU, sum);
+    let e = tbc::e(k, m, pairs::Pair::UU, sum);
     if n <= 15 {
         mask(uv, e);
         return;
     }
-    let f = tbc::e(k, m, tbc::Pair::VV, sum);
+    let f = tbc::e(k, m, pairs::Pair::VV, sum);
     mask(&mut uv[0..16], e);
     mask(&mut uv[16..n], f);
 }
@@ -162,7 +163,7 @@ fn keys_for(k: tbc::Base, n: usize) -> groups::Keys
 }
 
 // Lines 220 to 240, in place: s becomes AEZ-core of it.
-pub fn core_in_place(k: tbc::Key, delta: [u8; 16], way: Way, s: &mut [u8])
+pub fn core_in_place(k: key::Key, delta: [u8; 16], way: Way, s: &mut [u8])
     requires { ⌜ (Kept k) × (32 ≤ length (now s)) × (length (now s) ≤ 65536) ⌝ }
     ensures { λ _. ⌜ now (s .exit) ≡ core (E (blocks k)) delta (firstOf way) (secondOf way) (now (s .entry)) ⌝ }
 {

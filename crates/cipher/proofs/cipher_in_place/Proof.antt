@@ -2,7 +2,7 @@
 use borrow.Author.Needs.{needs}
 use Rattle.paper.specs.Strings.{Bytes}
 use Rattle.paper.specs.Figure6.{BlockFunction, E}
-use Rattle.tbc.specs.Meaning.{blocks}
+use Rattle.key.specs.Meaning.{blocks}
 use Rattle.cipher.proofs.Branches.{by-core, by-tiny, by-tiny-back}
 use Rattle.cipher.proofs.cipher_in_place.Statement.{statement}
 use Rattle.cipher.proofs.cipher_in_place.Tie as tie

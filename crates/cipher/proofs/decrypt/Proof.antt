@@ -8,7 +8,7 @@ use lib.Arith.{lt-of-le-ne}
 use lib.ListN.{length, replicate}
 use Rattle.paper.specs.Strings.{Bytes, if_then_else_}
 use Rattle.paper.specs.Figure6.{BlockFunction, E}
-use Rattle.tbc.specs.Meaning.{blocks}
+use Rattle.key.specs.Meaning.{blocks}
 use Rattle.cipher.specs.Under.{decryptUnder, opens, leaves}
 use Rattle.cipher.proofs.Branches.{put-all, empty-answer, answer}
 use Rattle.cipher.proofs.decrypt.Statement.{statement}

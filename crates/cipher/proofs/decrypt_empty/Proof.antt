@@ -5,7 +5,7 @@ use borrow.Author.Needs.{needs}
 use lib.ListN.{length, replicate}
 use Rattle.paper.specs.Strings.{Bytes}
 use Rattle.paper.specs.Figure6.{E}
-use Rattle.tbc.specs.Meaning.{blocks}
+use Rattle.key.specs.Meaning.{blocks}
 use Rattle.cipher.proofs.Branches.{empty-opens}
 use Rattle.cipher.proofs.decrypt_empty.Statement.{statement}
 use Rattle.cipher.proofs.decrypt_empty.Tie as tie

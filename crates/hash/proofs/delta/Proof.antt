@@ -8,8 +8,9 @@ use Rattle.paper.specs.Strings.{Bytes}
 use Rattle.paper.specs.Figure6 as figure6
 use Rattle.paper.specs.Figure6.{k0, BlockFunction, E}
 use Rattle.paper.specs.Document01.{readHeader}
-use Rattle.tbc.specs.Meaning.{blocks, base}
-use Rattle.tbc.proofs.Keys.{has-blocks}
+use Rattle.tbc.specs.Meaning.{base}
+use Rattle.key.specs.Meaning.{blocks}
+use Rattle.key.proofs.Keys.{has-blocks}
 use Rattle.header.specs.Places.{entryAt, Within, countOf, Few}
 use Rattle.header.specs.declared.Place.the-variants.{At}
 use Rattle.header.specs.declared.Reading.the-variants.{Strings}

@@ -8,8 +8,9 @@ use Rattle.paper.specs.Strings.{Bytes, _⊕_, number}
 use Rattle.paper.specs.Figure6 as figure6
 use Rattle.paper.specs.Figure6.{minus1, E, prfFrom}
 use Rattle.tbc.specs.declared.Base.{Base}
-use Rattle.tbc.specs.Meaning.{base, blocks}
-use Rattle.tbc.proofs.Keys.{has-blocks, of-j}
+use Rattle.tbc.specs.Meaning.{base}
+use Rattle.key.specs.Meaning.{blocks}
+use Rattle.key.proofs.Keys.{has-blocks, of-j}
 use Rattle.hash.proofs.Fitting.{Filled, filled-none, filled-more, filled-all}
 use Rattle.hash.proofs.prf.Statement.{statement}
 use Rattle.hash.proofs.prf.Tie as tie

@@ -3,7 +3,7 @@ use mathlib.Core.Path.{_≡_, ap₂, sym, _∙_}
 use Prim.Native.Nat.{_+_, _-_, _≤_}
 use native.Mathlib.Omega.{arith}
 use borrow.Author.Needs.{needs}
-use Rattle.tbc.specs.Meaning.{nextPower}
+use Rattle.masks.specs.Powers.{nextPower}
 use Rattle.pass.specs.Pairs.{powerAfter}
 use Rattle.pass.proofs.Powers.{after-none, after-more}
 use Rattle.pass.proofs.power_after.Statement.{statement}

@@ -5,7 +5,7 @@ use native.Mathlib.Omega.{arith}
 use borrow.Author.Needs.{needs}
 use lib.ListN.{length}
 use Rattle.paper.specs.Document01.{opening}
-use Rattle.tbc.specs.Meaning.{blocks}
+use Rattle.key.specs.Meaning.{blocks}
 use Rattle.record.proofs.Settles.{Openable, opening-fits, opening-refused}
 use Rattle.record.proofs.Whole.{lent-long, left, opens-by}
 use Rattle.record.proofs.open.Statement.{statement}

@@ -4,7 +4,7 @@ use Prim.Native.Nat.{_+_}
 use native.Mathlib.Omega.{arith}
 use borrow.Author.Needs.{needs}
 use lib.ListN.{length}
-use Rattle.tbc.specs.Meaning.{blocks}
+use Rattle.key.specs.Meaning.{blocks}
 use Rattle.record.proofs.Settles.{Fits, sealing-fits, sealing-refused}
 use Rattle.record.proofs.Whole.{lent-long, seals}
 use Rattle.record.proofs.seal.Statement.{statement}

@@ -13,7 +13,7 @@ use Rattle.laws.proofs.Strings.{⊕-assoc, ⊕-zeros}
 use Rattle.columns.specs.Columns.{columnsOf, blockOf}
 use Rattle.tbc.specs.Meaning.{base}
 use Rattle.tbc.proofs.Keys.{base-bytes}
-use Rattle.tbc.proofs.Powers.{next}
+use Rattle.masks.proofs.Powers.{next}
 use Rattle.strings.specs.Waiting.{Fits, soFar, fullTerm}
 use Rattle.strings.proofs.Rows.{masked-is}
 use Rattle.strings.proofs.Waits.{so-short}

@@ -15,9 +15,10 @@ use Rattle.laws.proofs.KeyBlocks.{times-block}
 use Rattle.laws.proofs.Strings.{⊕-assoc}
 use Rattle.columns.specs.Columns.{columnsOf, blockOf}
 use Rattle.columns.proofs.Conversions.{made}
-use Rattle.tbc.specs.Meaning.{blocks, base}
-use Rattle.tbc.specs.declared.Pair.{Pair}
-use Rattle.tbc.proofs.Keys.{key-bytes, has-blocks, of-j}
+use Rattle.tbc.specs.Meaning.{base}
+use Rattle.key.specs.Meaning.{blocks}
+use Rattle.pairs.specs.declared.Pair.{Pair}
+use Rattle.key.proofs.Keys.{key-bytes, has-blocks, of-j}
 use Rattle.strings.specs.declared.Sum.{Sum}
 use Rattle.strings.specs.Waiting.{soFar, fullTerm, shortTerm}
 use Rattle.strings.proofs.Rows.{full-terms, short-term}

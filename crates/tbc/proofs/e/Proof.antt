@@ -12,9 +12,11 @@ use Rattle.laws.proofs.KeyBlocks.{times-block}
 use Rattle.block.proofs.Arrays.{array-bytes}
 use Rattle.columns.specs.Columns.{columnsOf, blockOf}
 use Rattle.aes.specs.Steps.{keysOf}
-use Rattle.tbc.specs.Meaning.{base, rowOf}
+use Rattle.pairs.specs.Meaning.{rowOf}
+use Rattle.tbc.specs.Meaning.{base}
 use Rattle.tbc.proofs.Keys.{base-bytes}
-use Rattle.tbc.proofs.Masks.{first-masked, in-minus1, in-row, in-row-0, plain-small, read, with-mask}
+use Rattle.pairs.proofs.Pairs.{in-minus1, in-row, in-row-0, plain-small}
+use Rattle.tbc.proofs.Masks.{first-masked, read, with-mask}
 use Rattle.tbc.proofs.e.Statement.{statement}
 use Rattle.tbc.proofs.e.Tie as tie
 

@@ -14,7 +14,8 @@ use Rattle.block.proofs.Arrays.{array-bytes}
 use Rattle.columns.specs.Columns.{blockOf}
 use Rattle.aes.specs.Steps.{keysOf}
 use Rattle.tbc.specs.Meaning.{base}
-use Rattle.tbc.proofs.Masks.{in-row, runningMask, runningMask-block, running-is, with-mask}
+use Rattle.pairs.proofs.Pairs.{in-row}
+use Rattle.tbc.proofs.Masks.{runningMask, runningMask-block, running-is, with-mask}
 use Rattle.tbc.proofs.e_running.Statement.{statement}
 use Rattle.tbc.proofs.e_running.Tie as tie
 

@@ -10,7 +10,7 @@ use Rattle.block.proofs.Arrays.{array-bytes}
 use Rattle.columns.specs.Columns.{columnsOf}
 use Rattle.columns.proofs.Conversions.{made, sum-of}
 use Rattle.tbc.specs.Meaning.{base, masked0}
-use Rattle.tbc.specs.declared.Pair.{Pair}
+use Rattle.pairs.specs.declared.Pair.{Pair}
 use Rattle.tiny.specs.Blocks.{mark}
 use Rattle.tiny.proofs.Indices.{index-le}
 use Rattle.tiny.proofs.OnBlocks.{mark-block}

@@ -13,8 +13,10 @@ use Rattle.laws.proofs.Digits.{below-of}
 use Rattle.laws.proofs.KeyBlocks.{E-block}
 use Rattle.laws.proofs.CoreParts.{cut}
 use Rattle.block.proofs.Arrays.{array-bytes}
-use Rattle.tbc.specs.Meaning.{blocks, base, OfJ}
-use Rattle.tbc.proofs.Keys.{base-bytes, has-blocks, of-j}
+use Rattle.tbc.specs.Meaning.{base, OfJ}
+use Rattle.key.specs.Meaning.{blocks}
+use Rattle.tbc.proofs.Keys.{base-bytes}
+use Rattle.key.proofs.Keys.{has-blocks, of-j}
 use Rattle.wide.specs.Ways.{firstOf, secondOf}
 use Rattle.wide.proofs.Parts.{put-length}
 use Rattle.wide.proofs.CoreWhole.{together}

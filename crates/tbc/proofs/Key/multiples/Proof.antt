@@ -1,9 +1,0 @@
--- `tbc::Key::multiples` meets its contract.
-use Rattle.tbc.proofs.Key.multiples.Statement.{statement}
-use Rattle.tbc.proofs.Key.multiples.Tie as tie
-
-returns : tie.Need-returns
-returns c = c .before .pre .Js
-
-pub multiples-spec : {M : Type 1} → statement M
-multiples-spec = tie.close (tie.spec returns)
