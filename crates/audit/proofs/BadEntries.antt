@@ -13,7 +13,7 @@ use Rattle.paper.specs.Figure6.{keyOf, E}
 use Rattle.paper.specs.Figure5.{decrypt}
 use Rattle.paper.specs.Document01.{beside, refused, Read, asStrings, badEntry, reading, told, sealUnder, sealing, opened, openUnder, opening}
 use Rattle.laws.proofs.BadEntries.{number-most}
-use Rattle.record.proofs.Settles.{sealing-in, opening-in}
+use Rattle.settle.proofs.Settles.{sealing-in, opening-in}
 use Rattle.aez.proofs.aez_seal_at.Reads as aez-seal-at
 use Rattle.aez.proofs.aez_open_at.Reads as aez-open-at
 use Rattle.aez.proofs.aez_header_read.Reads as aez-header-read

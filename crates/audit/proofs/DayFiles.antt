@@ -21,9 +21,9 @@ use Rattle.laws.proofs.DayLists.{headers-listed, records-listed}
 use Rattle.answer.specs.Outcomes.{outcome}
 use Rattle.answer.specs.declared.Answer.{Answer}
 use Rattle.answer.specs.declared.AnswerAt.{AnswerAt}
-use Rattle.record.specs.declared.Refusal.{Refusal}
-use Rattle.record.specs.Settled.{settledSealing}
-use Rattle.record.proofs.Settles.{Fits, sealing-fits, sealing-refused}
+use Rattle.settle.specs.declared.Refusal.{Refusal}
+use Rattle.settle.specs.Settled.{settledSealing}
+use Rattle.settle.proofs.Settles.{Fits, sealing-fits, sealing-refused}
 use Rattle.day_write.specs.Settled.{settledFor}
 use Rattle.day_write.proofs.Writes.{Accepted, accepted, write-refused}
 use Rattle.day_write.proofs.write.Reads as write-reads

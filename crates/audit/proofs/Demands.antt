@@ -22,9 +22,9 @@ use Rattle.laws.proofs.Demand3 as laws
 use Rattle.laws.proofs.Demand3.{Fixed}
 use Rattle.answer.specs.Outcomes.{outcomeAt}
 use Rattle.answer.specs.declared.AnswerAt.{AnswerAt}
-use Rattle.record.specs.declared.Refusal.{Refusal}
-use Rattle.record.specs.Settled.{refusal, settledCommon, settledSealing, settledOpening}
-use Rattle.record.proofs.Settles.{Fits, sealing-fits, sealing-refused, sealing-done, sealing-then, opening-refused, opening-opened, opening-then, opening-fits, opening-most}
+use Rattle.settle.specs.declared.Refusal.{Refusal}
+use Rattle.settle.specs.Settled.{refusal, settledCommon, settledSealing, settledOpening}
+use Rattle.settle.proofs.Settles.{Fits, sealing-fits, sealing-refused, sealing-done, sealing-then, opening-refused, opening-opened, opening-then, opening-fits, opening-most}
 use Rattle.record.proofs.seal.Reads as seal-reads
 use Rattle.record.proofs.«open».Reads as open-reads
 

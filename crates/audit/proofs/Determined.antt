@@ -101,6 +101,8 @@ use Rattle.answer.proofs.StretchBytes.bits.Reads as answer-bits
 use Rattle.header.proofs.entry.Reads as header-entry
 use Rattle.header.proofs.count.Reads as header-count
 use Rattle.header.proofs.read.Reads as header-read
+use Rattle.settle.proofs.settled_sealing.Reads as settle-settled-sealing
+use Rattle.settle.proofs.settled_opening.Reads as settle-settled-opening
 use Rattle.builder.proofs.put.Reads as builder-put
 use Rattle.builder.proofs.log_header.Reads as builder-log-header
 use Rattle.strings.proofs.nothing.Reads as strings-nothing
@@ -444,6 +446,12 @@ header-count-determined κs a z w e f p q = one (p .0) (q .0)
 
 pub header-read-determined : (κs : _) (a : _) (z w : _) (e f : _) → header-read.Learnt κs a z e → header-read.Learnt κs a w f → z ≡ w
 header-read-determined κs a z w e f p q = one p q
+
+pub settle-settled-sealing-determined : (κs : _) (a : _) (z w : _) (e f : _) → settle-settled-sealing.Learnt κs a z e → settle-settled-sealing.Learnt κs a w f → z ≡ w
+settle-settled-sealing-determined κs a z w e f p q = one p q
+
+pub settle-settled-opening-determined : (κs : _) (a : _) (z w : _) (e f : _) → settle-settled-opening.Learnt κs a z e → settle-settled-opening.Learnt κs a w f → z ≡ w
+settle-settled-opening-determined κs a z w e f p q = one p q
 
 pub builder-put-determined : (κs : _) (a : _) (z w : _) (e f : _) → builder-put.Learnt κs a z e → builder-put.Learnt κs a w f → (z ≡ w) × (now (e .0) ≡ now (f .0))
 builder-put-determined κs a z w e f p q = (one (p .0) (q .0), one (p .1) (q .1))

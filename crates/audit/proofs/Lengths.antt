@@ -15,9 +15,9 @@ use Rattle.laws.proofs.BitStrings.{length-digits}
 use Rattle.laws.proofs.Demand3 as laws
 use Rattle.laws.proofs.Demand3.{Fixed}
 use Rattle.answer.specs.declared.AnswerAt.{AnswerAt}
-use Rattle.record.specs.declared.Refusal.{Refusal}
-use Rattle.record.specs.Settled.{settledSealing, settledOpening}
-use Rattle.record.proofs.Settles.{sealing-fits, sealing-refused, sealing-done, opening-fits, opening-refused}
+use Rattle.settle.specs.declared.Refusal.{Refusal}
+use Rattle.settle.specs.Settled.{settledSealing, settledOpening}
+use Rattle.settle.proofs.Settles.{sealing-fits, sealing-refused, sealing-done, opening-fits, opening-refused}
 use Rattle.audit.proofs.Demands.{Sealed, Opened, Within, seals-defined, opens-iff-sealed, opening-returns}
 
 -- sealing: the text's length and the stretch

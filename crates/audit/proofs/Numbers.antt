@@ -13,7 +13,7 @@ use Rattle.paper.specs.Figure5.{decrypt}
 use Rattle.paper.specs.Document01.{Outcome, OutcomeAt, beside, refused, done, Read, asStrings, badEntry, reading, told, longestString, logHeader, sealing, opened, opening, buildingLogHeader}
 use Rattle.paper.specs.DayFile.{Record, Day, headerOf, writeDay, longestFile, readDay, counted, counting, openRecord, openIn, openingRecord, dayPlaces, listed, listing, headersOf, dayFrom, writeAs, writing}
 use Rattle.paper.specs.DayEdits.{cleared, risingFrom, shrunk, clearIn, clearing, grown, appendFits, appendIn, appending}
-use Rattle.record.proofs.Settles.{sealing-in, opening-in}
+use Rattle.settle.proofs.Settles.{sealing-in, opening-in}
 use Rattle.aez.proofs.aez_seal.Reads as aez-seal
 use Rattle.aez.proofs.aez_open.Reads as aez-open
 use Rattle.aez.proofs.aez_seal_at.Reads as aez-seal-at

@@ -20,9 +20,9 @@ use Rattle.laws.proofs.Demand3 as laws
 use Rattle.laws.proofs.Demand3.{Fixed}
 use Rattle.laws.proofs.PauseParts.{Mark, most-bytes}
 use Rattle.laws.proofs.LedgerSums.{IfMark, header-mark}
-use Rattle.record.specs.declared.Refusal.{Refusal}
-use Rattle.record.specs.Settled.{settledOpening}
-use Rattle.record.proofs.Settles.{opening-fits, opening-refused, opening-opened}
+use Rattle.settle.specs.declared.Refusal.{Refusal}
+use Rattle.settle.specs.Settled.{settledOpening}
+use Rattle.settle.proofs.Settles.{opening-fits, opening-refused, opening-opened}
 use Rattle.pause_unit.specs.declared.Read.{Read}
 use Rattle.pause_unit.specs.declared.Read.the-variants as read
 use Rattle.ledger.specs.Pauses.{takenAs}

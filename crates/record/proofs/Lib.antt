@@ -1,3 +1,2 @@
-pub mod Settles
 mod Whole
 mod Parts

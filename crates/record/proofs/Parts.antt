@@ -12,7 +12,7 @@ use Rattle.paper.specs.Figure5.{decrypt}
 use Rattle.paper.specs.Document01.{OutcomeAt, beside, opened, opening, openedPart}
 use Rattle.answer.specs.Outcomes.{outcomeAt}
 use Rattle.answer.specs.declared.AnswerAt.{AnswerAt}
-use Rattle.record.proofs.Settles.{opening-in}
+use Rattle.settle.proofs.Settles.{opening-in}
 
 abbrev Inside : OutcomeAt → Type 0
 Inside o = o .size ≤ length (o .output)

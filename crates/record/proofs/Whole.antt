@@ -16,10 +16,10 @@ use Rattle.paper.specs.Figure5.{delta, encrypt, decrypt, unpadded}
 use Rattle.paper.specs.Document01.{OutcomeAt, beside, readHeader, sealing, opened, opening}
 use Rattle.answer.specs.Outcomes.{outcomeAt}
 use Rattle.hash.specs.Delta.{deltaOf}
-use Rattle.record.specs.declared.Refusal.{Refusal}
-use Rattle.record.specs.Settled.{settledSealing, settledOpening}
+use Rattle.settle.specs.declared.Refusal.{Refusal}
+use Rattle.settle.specs.Settled.{settledSealing, settledOpening}
 use Rattle.cipher.specs.Under.{encryptUnder, decryptUnder, opens, leaves}
-use Rattle.record.proofs.Settles.{sealing-fits, sealing-done, opening-fits, opening-opened}
+use Rattle.settle.proofs.Settles.{sealing-fits, sealing-done, opening-fits, opening-opened}
 
 -- ---- Lines 100 to 115 with their own Δ are those with Δ handed on
 

@@ -5,7 +5,7 @@ use native.Mathlib.Omega.{arith}
 use borrow.Author.Needs.{needs}
 use lib.ListN.{length}
 use Rattle.key.specs.Meaning.{blocks}
-use Rattle.record.proofs.Settles.{Fits, sealing-fits, sealing-refused}
+use Rattle.settle.proofs.Settles.{Fits, sealing-fits, sealing-refused}
 use Rattle.record.proofs.Whole.{lent-long, seals}
 use Rattle.record.proofs.seal.Statement.{statement}
 use Rattle.record.proofs.seal.Tie as tie

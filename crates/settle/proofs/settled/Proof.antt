@@ -1,4 +1,4 @@
--- `record::settled` meets its contract.
+-- `settle::settled` meets its contract.
 use mathlib.Core.Bool.{true, false}
 use mathlib.Core.Path.{_≡_, refl, _∙_}
 use Prim.Native.Nat.{ℕ, _<_}
@@ -8,10 +8,10 @@ use lib.Dec.{ltb}
 use Rattle.header.specs.Places.{readAs}
 use Rattle.header.specs.declared.Reading.the-variants.{Bad, Strings}
 use Rattle.paper.specs.Document01.{Read, asStrings, badEntry, reading, longestStretch}
-use Rattle.record.specs.Settled.{refusal, unread, settledCommon}
-use Rattle.record.proofs.Settles.{common-then}
-use Rattle.record.proofs.settled.Statement.{statement}
-use Rattle.record.proofs.settled.Tie as tie
+use Rattle.settle.specs.Settled.{refusal, unread, settledCommon}
+use Rattle.settle.proofs.Settles.{common-then}
+use Rattle.settle.proofs.settled.Statement.{statement}
+use Rattle.settle.proofs.settled.Tie as tie
 
 -- what the reader's two answers say of test 3
 not-read : (r : Read) (k : ℕ) → Bad k ≡ readAs r → refusal 3 k ≡ unread r

@@ -5,7 +5,7 @@ use lib.Dec.{eqb, ltb}
 use lib.ListN.{length}
 use Rattle.paper.specs.Strings.{Bytes, if_then_else_}
 use Rattle.paper.specs.Document01.{Read, asStrings, badEntry, reading, longestSealed, longestStretch}
-use Rattle.record.specs.declared.Refusal.{Refusal}
+use Rattle.settle.specs.declared.Refusal.{Refusal}
 
 -- a number, and beside it that of the header's bad entry
 abbrev pub refusal : ℕ → ℕ → Refusal

@@ -13,8 +13,8 @@ use Rattle.paper.specs.Figure6.{keyOf, E}
 use Rattle.paper.specs.Figure5.{encrypt, decrypt}
 use Rattle.paper.specs.Document01.{Outcome, OutcomeAt, beside, Read, asStrings, badEntry, reading, stringsOf, readHeader, refused, done, longestSealed, longestStretch, sealUnder, sealing, opened, openUnder, opening}
 use Rattle.laws.proofs.Headers.{reads-as}
-use Rattle.record.specs.declared.Refusal.{Refusal}
-use Rattle.record.specs.Settled.{refusal, unread, settledCommon, first, settledSealing, settledOpening}
+use Rattle.settle.specs.declared.Refusal.{Refusal}
+use Rattle.settle.specs.Settled.{refusal, unread, settledCommon, first, settledSealing, settledOpening}
 
 -- ---- Tests in their order
 

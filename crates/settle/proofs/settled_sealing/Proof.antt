@@ -1,4 +1,4 @@
--- `record::settled_sealing` meets its contract.
+-- `settle::settled_sealing` meets its contract.
 use mathlib.Core.Bool.{Bool, true, false}
 use mathlib.Core.Path.{_≡_, refl, ap, sym, _∙_}
 use Prim.Native.Nat.{ℕ, _+_, _≤_, _<_}
@@ -8,11 +8,11 @@ use borrow.Author.Tests.{lt-ltb, le-ltb}
 use lib.Dec.{ltb}
 use Rattle.paper.specs.Strings.{if_then_else_}
 use Rattle.paper.specs.Document01.{longestSealed, longestStretch}
-use Rattle.record.specs.declared.Refusal.{Refusal}
-use Rattle.record.specs.Settled.{refusal, settledCommon, settledSealing}
-use Rattle.record.proofs.Settles.{passed, first-is, sealing-then}
-use Rattle.record.proofs.settled_sealing.Statement.{statement}
-use Rattle.record.proofs.settled_sealing.Tie as tie
+use Rattle.settle.specs.declared.Refusal.{Refusal}
+use Rattle.settle.specs.Settled.{refusal, settledCommon, settledSealing}
+use Rattle.settle.proofs.Settles.{passed, first-is, sealing-then}
+use Rattle.settle.proofs.settled_sealing.Statement.{statement}
+use Rattle.settle.proofs.settled_sealing.Tie as tie
 
 abbrev start : tie.After-settled → tie.Start
 start c = c .before .before .before

@@ -1,4 +1,4 @@
--- `record::settled_opening` meets its contract.
+-- `settle::settled_opening` meets its contract.
 use mathlib.Core.Bool.{Bool, true, false}
 use mathlib.Core.Path.{_≡_, refl}
 use Prim.Native.Nat.{ℕ}
@@ -7,10 +7,10 @@ use borrow.Author.Tests.{lt-ltb, le-ltb}
 use lib.Dec.{ltb}
 use Rattle.paper.specs.Strings.{if_then_else_}
 use Rattle.paper.specs.Document01.{longestSealed}
-use Rattle.record.specs.Settled.{refusal, settledCommon, settledOpening}
-use Rattle.record.proofs.Settles.{first-is, opening-then}
-use Rattle.record.proofs.settled_opening.Statement.{statement}
-use Rattle.record.proofs.settled_opening.Tie as tie
+use Rattle.settle.specs.Settled.{refusal, settledCommon, settledOpening}
+use Rattle.settle.proofs.Settles.{first-is, opening-then}
+use Rattle.settle.proofs.settled_opening.Statement.{statement}
+use Rattle.settle.proofs.settled_opening.Tie as tie
 
 abbrev start : tie.After-settled → tie.Start
 start c = c .before .before .before
