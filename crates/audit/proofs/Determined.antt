@@ -110,6 +110,13 @@ use Rattle.strings.proofs.add_string.Reads as strings-add-string
 use Rattle.strings.proofs.hashed.Reads as strings-hashed
 use Rattle.hash.proofs.delta.Reads as hash-delta
 use Rattle.hash.proofs.prf.Reads as hash-prf
+use Rattle.halves.specs.Blocks.{blocksOf}
+use Rattle.halves.proofs.front.Reads as halves-front
+use Rattle.halves.proofs.and.Reads as halves-and
+use Rattle.halves.proofs.halves_of.Reads as halves-halves-of
+use Rattle.halves.proofs.put_joined.Reads as halves-put-joined
+use Rattle.turns.proofs.turns_up.Reads as turns-turns-up
+use Rattle.turns.proofs.turns_down.Reads as turns-turns-down
 use Rattle.tiny.proofs.encipher.Reads as tiny-encipher
 use Rattle.tiny.proofs.decipher.Reads as tiny-decipher
 use Rattle.wide.proofs.core_in_place.Reads as wide-core-in-place
@@ -480,7 +487,26 @@ hash-delta-determined κs a z w e f p q = one p q
 pub hash-prf-determined : (κs : _) (a : _) (z w : _) (e f : _) → hash-prf.Learnt κs a z e → hash-prf.Learnt κs a w f → now (e .1 .1 .0) ≡ now (f .1 .1 .0)
 hash-prf-determined κs a z w e f p q = one p q
 
--- ---- AEZ-tiny: `tiny`
+-- ---- AEZ-tiny: `halves`, `turns`, `tiny`
+
+pub halves-front-determined : (κs : _) (a : _) (z w : _) (e f : _) → halves-front.Learnt κs a z e → halves-front.Learnt κs a w f → z ≡ w
+halves-front-determined κs a z w e f p q = one p q
+
+pub halves-and-determined : (κs : _) (a : _) (z w : _) (e f : _) → halves-and.Learnt κs a z e → halves-and.Learnt κs a w f → z ≡ w
+halves-and-determined κs a z w e f p q = one p q
+
+-- the halves as blocks (docs/CONTRACTS.md)
+pub halves-halves-of-determined : (κs : _) (a : _) (z w : _) (e f : _) → halves-halves-of.Learnt κs a z e → halves-halves-of.Learnt κs a w f → blocksOf z ≡ blocksOf w
+halves-halves-of-determined κs a z w e f p q = one p q
+
+pub halves-put-joined-determined : (κs : _) (a : _) (z w : _) (e f : _) → halves-put-joined.Learnt κs a z e → halves-put-joined.Learnt κs a w f → now (e .1 .0) ≡ now (f .1 .0)
+halves-put-joined-determined κs a z w e f p q = one p q
+
+pub turns-turns-up-determined : (κs : _) (a : _) (z w : _) (e f : _) → turns-turns-up.Learnt κs a z e → turns-turns-up.Learnt κs a w f → blocksOf z ≡ blocksOf w
+turns-turns-up-determined κs a z w e f p q = one p q
+
+pub turns-turns-down-determined : (κs : _) (a : _) (z w : _) (e f : _) → turns-turns-down.Learnt κs a z e → turns-turns-down.Learnt κs a w f → blocksOf z ≡ blocksOf w
+turns-turns-down-determined κs a z w e f p q = one p q
 
 pub tiny-encipher-determined : (κs : _) (a : _) (z w : _) (e f : _) → tiny-encipher.Learnt κs a z e → tiny-encipher.Learnt κs a w f → now (e .1 .1 .0) ≡ now (f .1 .1 .0)
 tiny-encipher-determined κs a z w e f p q = one p q

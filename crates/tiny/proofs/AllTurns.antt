@@ -1,9 +1,7 @@
--- The turns of AEZ-tiny on blocks: as loops count them; and all of them on the halves of a string.
+-- All the turns of AEZ-tiny on the halves of a string.
 use mathlib.Core.List.{List}
-use mathlib.Core.Path.{_≡_, refl, ap, sym, _∙_}
-use Prim.Native.Nat.{ℕ, zero, suc, _+_, _-_, _*_, _≤_, _<_}
-use native.Mathlib.Numerals.{add-one}
-use native.Mathlib.Omega.{arith}
+use mathlib.Core.Path.{_≡_, refl, ap, _∙_}
+use Prim.Native.Nat.{ℕ, _*_, _≤_}
 use lib.ListN.{length}
 use Rattle.paper.specs.Strings.{Bytes, Digits, Block, _⊕_}
 use Rattle.paper.specs.Section7.{AES4}
@@ -12,33 +10,14 @@ use Rattle.paper.specs.Figure5.{Halves, halves, joined, tinyIndex}
 use Rattle.laws.proofs.BlockFunction.{GivesBlocks}
 use Rattle.laws.proofs.Counts.{up, down, through, counts-up, counts-down}
 use Rattle.laws.proofs.Feistel.{feistel}
-use Rattle.tiny.specs.HalfBytes.{halfBytes, wholeBytes}
-use Rattle.tiny.specs.Blocks.{mark, front, packedBoth, firsts, blockTurn, blockTurnsUp, blockTurnsDown}
+use Rattle.halves.specs.HalfBytes.{halfBytes, wholeBytes}
+use Rattle.halves.specs.Blocks.{front, packedBoth, firsts}
+use Rattle.turns.specs.Turns.{blockTurn, blockTurnsUp, blockTurnsDown}
+use Rattle.tiny.specs.OnBytes.{mark}
 use Rattle.tiny.proofs.OnHalves.{halfTurns}
 use Rattle.tiny.proofs.OnBlocks.{blockAdded, same-turns}
 
 module _ (Ks : List Bytes) (M : Bytes) where
-  -- t is s after the turns below k, and u is t after turn k
-  pub up-none : (s : Halves) → s ≡ blockTurnsUp Ks M 0 s
-  unfolding blockTurnsUp
-  up-none s = refl
-
-  pub up-more : (k : ℕ) (s t u : Halves) → t ≡ blockTurnsUp Ks M k s → u ≡ blockTurn Ks M k t → u ≡ blockTurnsUp Ks M (k + 1) s
-  unfolding blockTurnsUp
-  up-more k s t u e d = d ∙ ap (blockTurn Ks M k) e ∙ ap (λ (i : ℕ). blockTurnsUp Ks M i s) (sym (add-one k))
-
-  -- the turns below k make w of t, and u is t after turn k - 1
-  pub down-more : (k : ℕ) (t u w : Halves) → 0 < k → blockTurnsDown Ks M k t ≡ w → u ≡ blockTurn Ks M (k - 1) t → blockTurnsDown Ks M (k - 1) u ≡ w
-  unfolding blockTurnsDown
-  down-more zero t u w h e d = absurd (omega arith)
-  down-more (suc k) t u w h e d =
-      let less : suc k - 1 ≡ k = omega arith in
-      ap (blockTurnsDown Ks M (suc k - 1)) d ∙ ap (λ (i : ℕ). blockTurnsDown Ks M i (blockTurn Ks M i t)) less ∙ e
-
-  pub down-none : (t w : Halves) → blockTurnsDown Ks M 0 t ≡ w → t ≡ w
-  unfolding blockTurnsDown
-  down-none t w e = e
-
   -- as the turns of a list
   pub up-through : (k : ℕ) (s : Halves) → blockTurnsUp Ks M k s ≡ through (feistel (blockAdded Ks M)) (up k) s
   unfolding blockTurnsUp blockTurn

@@ -11,7 +11,7 @@ use lib.ListN.{length, getD, set, replicate, length-append, length-replicate}
 use Rattle.paper.specs.Strings.{Bytes, if_then_else_, zip, _⊕_, _or_, _and_, zeroFill, pad10*}
 use Rattle.paper.specs.Figure6.{row, BlockFunction}
 use Rattle.laws.proofs.LastStep.{⊕-and-zeros}
-use Rattle.tiny.specs.HalfBytes.{lastBytes}
+use Rattle.tiny.specs.OnBytes.{lastBytes}
 
 or-zeros : (k : ℕ) (X : Bytes) → length X ≤ k → X or replicate k 0 ≡ X
 unfolding _or_ zip

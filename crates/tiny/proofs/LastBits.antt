@@ -14,7 +14,7 @@ use Rattle.laws.proofs.Digits.{⊕-block}
 use Rattle.laws.proofs.BitStrings.{bytes-bits}
 use Rattle.laws.proofs.Bitwise.{bits-⊕, bits-or, bits-and}
 use Rattle.laws.proofs.LastStep.{by-test, mask, under-digits, masked-digits}
-use Rattle.tiny.specs.HalfBytes.{lastBytes}
+use Rattle.tiny.specs.OnBytes.{lastBytes}
 use Rattle.tiny.proofs.PaddedHalves.{bits-0*, bits-1, one-block}
 
 module _ (E : BlockFunction) (E-block : GivesBlocks E) (Δ : Bytes) (Δ-block : Block Δ) where

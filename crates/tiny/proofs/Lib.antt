@@ -1,10 +1,9 @@
-mod ByteHalves
+mod HalfBits
 mod PaddedHalves
-mod PackedHalves
+mod SummedHalves
 mod LastBits
 mod OnHalves
 mod OnBlocks
 mod FirstByte
 mod Indices
 mod AllTurns
-mod ColumnBits

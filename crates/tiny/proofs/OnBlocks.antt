@@ -1,7 +1,7 @@
 -- The turns on blocks, in any order, are those on half-bytes: AES4 under keys that have Δ and the mark in them is E of the turn.
 use mathlib.Core.List.{List}
-use mathlib.Core.Path.{_≡_, refl, ap, ap₂, sym, _∙_}
-use Prim.Native.Nat.{ℕ, _+_, _≤_}
+use mathlib.Core.Path.{_≡_, ap, ap₂, sym, _∙_}
+use Prim.Native.Nat.{ℕ, _≤_}
 use native.Mathlib.Omega.{arith}
 use Rattle.paper.specs.Strings.{Bytes, Digits, Block, _⊕_, _and_, number}
 use Rattle.paper.specs.Section7.{AES4}
@@ -9,21 +9,17 @@ use Rattle.paper.specs.Figure6.{row, BlockFunction}
 use Rattle.paper.specs.Figure5.{Halves, halves}
 use Rattle.laws.proofs.BlockFunction.{GivesBlocks}
 use Rattle.laws.proofs.Counts.{through, keep, commute}
-use Rattle.laws.proofs.Digits.{⊕-digits, ⊕-block, append-digits, take-digits, drop-digits, zero-digits, as-digits}
+use Rattle.laws.proofs.Digits.{⊕-digits, ⊕-block, take-digits, drop-digits, as-digits}
 use Rattle.laws.proofs.Feistel.{RoundFunction, feistel}
 use Rattle.laws.proofs.KeyBlocks.{number-block}
 use Rattle.laws.proofs.Strings.{⊕-assoc, ⊕-comm, ⊕-left-comm}
-use Rattle.tiny.specs.HalfBytes.{halfBytes}
-use Rattle.tiny.specs.Blocks.{packed, mark, front, packedBoth, firsts}
-use Rattle.tiny.proofs.ByteHalves.{halfBytes-digits}
-use Rattle.tiny.proofs.PackedHalves.{packed-block, first-packed, packed-⊕, packed-10*, packed-front}
+use Rattle.halves.specs.HalfBytes.{halfBytes}
+use Rattle.halves.specs.Blocks.{packed, front, packedBoth, firsts}
+use Rattle.halves.proofs.ByteHalves.{halfBytes-digits}
+use Rattle.halves.proofs.PackedHalves.{packed-block, packed-front}
+use Rattle.tiny.specs.OnBytes.{mark}
+use Rattle.tiny.proofs.SummedHalves.{first-packed, packed-⊕, packed-10*}
 use Rattle.tiny.proofs.OnHalves.{halfE, halfAdded, halfE-block, halfAdded-digits}
-
-pub mark-block : (n : ℕ) → n ≤ 31 → Block (mark n)
-unfolding mark
-mark-block n few =
-    packed-block (n + 1) (omega arith)
-    (append-digits (zero-digits 4 n) (record { len = refl; low = (omega arith, tt) }))
 
 -- 216: what turn i adds to the left half, as a block
 abbrev pub blockAdded : List Bytes → Bytes → RoundFunction

@@ -16,8 +16,10 @@ use Rattle.laws.proofs.KeyBlocks.{number-block}
 use Rattle.laws.proofs.Padding.{mark-digits}
 use Rattle.laws.proofs.Feistel.{RoundFunction, pass, pass-digits, pass-inBits}
 use Rattle.laws.proofs.Tiny.{added, allTurns, encipherTiny-bits, decipherTiny-bits}
-use Rattle.tiny.specs.HalfBytes.{halfBytes, wholeBytes, lastBytes}
-use Rattle.tiny.proofs.ByteHalves.{halfBytes-digits, wholeBytes-digits, bits-halfBytes, bits-wholeBytes}
+use Rattle.halves.specs.HalfBytes.{halfBytes, wholeBytes}
+use Rattle.halves.proofs.ByteHalves.{halfBytes-digits, wholeBytes-digits}
+use Rattle.tiny.specs.OnBytes.{lastBytes}
+use Rattle.tiny.proofs.HalfBits.{bits-halfBytes, bits-wholeBytes}
 use Rattle.tiny.proofs.PaddedHalves.{half10*, inBits-10*}
 use Rattle.tiny.proofs.LastBits.{tinyE-bytes, lastBytes-digits, last-bits}
 

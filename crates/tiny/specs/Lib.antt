@@ -1,2 +1,1 @@
-pub mod HalfBytes
-pub mod Blocks
+pub mod OnBytes

@@ -23,12 +23,12 @@ use Rattle.tbc.proofs.Adding.{adding}
 use Rattle.tbc.proofs.Keys.{base-bytes}
 use Rattle.key.proofs.Keys.{has-blocks, of-j}
 use Rattle.aes.specs.Steps.{keysOf}
-use Rattle.tiny.specs.HalfBytes.{lastBytes}
-use Rattle.tiny.specs.Blocks.{mark, front, blocksOf}
+use Rattle.halves.specs.Blocks.{front, blocksOf}
+use Rattle.tiny.specs.OnBytes.{mark, lastBytes}
 use Rattle.tiny.proofs.LastBits.{lastBytes-digits}
-use Rattle.tiny.proofs.PackedHalves.{front-block}
+use Rattle.halves.proofs.PackedHalves.{front-block}
 use Rattle.tiny.proofs.OnHalves.{halfTurns, decipherTiny-halfBytes}
-use Rattle.tiny.proofs.OnBlocks.{mark-block}
+use Rattle.tiny.proofs.SummedHalves.{mark-block}
 use Rattle.tiny.proofs.AllTurns.{down-through, all-turns}
 use Rattle.tiny.proofs.decipher.Statement.{statement}
 use Rattle.tiny.proofs.decipher.Tie as tie

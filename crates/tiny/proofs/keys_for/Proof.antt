@@ -11,9 +11,9 @@ use Rattle.columns.specs.Columns.{columnsOf}
 use Rattle.columns.proofs.Conversions.{made, sum-of}
 use Rattle.tbc.specs.Meaning.{base, masked0}
 use Rattle.pairs.specs.declared.Pair.{Pair}
-use Rattle.tiny.specs.Blocks.{mark}
+use Rattle.tiny.specs.OnBytes.{mark}
 use Rattle.tiny.proofs.Indices.{index-le}
-use Rattle.tiny.proofs.OnBlocks.{mark-block}
+use Rattle.tiny.proofs.SummedHalves.{mark-block}
 use Rattle.tiny.proofs.keys_for.Statement.{statement}
 use Rattle.tiny.proofs.keys_for.Tie as tie
 

@@ -1,7 +1,7 @@
 -- `tiny::mark` meets its contract.
 use native.Mathlib.Omega.{arith}
 use borrow.Author.Needs.{needs}
-use Rattle.tiny.proofs.ColumnBits.{mark-columns}
+use Rattle.tiny.proofs.SummedHalves.{mark-columns}
 use Rattle.tiny.proofs.mark.Statement.{statement}
 use Rattle.tiny.proofs.mark.Tie as tie
 

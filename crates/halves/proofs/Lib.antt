@@ -1,0 +1,3 @@
+pub mod ByteHalves
+pub mod PackedHalves
+pub mod ColumnBits
