@@ -36,11 +36,11 @@ use Rattle.strings.specs.Waiting.{soFar}
 use Rattle.block.proofs.xor.Reads as block-xor
 use Rattle.block.proofs.pad.Reads as block-pad
 use Rattle.block.proofs.number.Reads as block-number
-use Rattle.block.proofs.load.Reads as block-load
-use Rattle.block.proofs.store.Reads as block-store
-use Rattle.block.proofs.copy.Reads as block-copy
-use Rattle.block.proofs.clear.Reads as block-clear
-use Rattle.block.proofs.same_bytes.Reads as block-same-bytes
+use Rattle.slices.proofs.load.Reads as slices-load
+use Rattle.slices.proofs.store.Reads as slices-store
+use Rattle.slices.proofs.copy.Reads as slices-copy
+use Rattle.slices.proofs.clear.Reads as slices-clear
+use Rattle.slices.proofs.same_bytes.Reads as slices-same-bytes
 use Rattle.numbers.proofs.two.Reads as numbers-two
 use Rattle.numbers.proofs.four.Reads as numbers-four
 use Rattle.numbers.proofs.put_two.Reads as numbers-put-two
@@ -236,20 +236,20 @@ block-pad-determined κs a z w e f p q = one p q
 pub block-number-determined : (κs : _) (a : _) (z w : _) (e f : _) → block-number.Learnt κs a z e → block-number.Learnt κs a w f → z ≡ w
 block-number-determined κs a z w e f p q = one p q
 
-pub block-load-determined : (κs : _) (a : _) (z w : _) (e f : _) → block-load.Learnt κs a z e → block-load.Learnt κs a w f → z ≡ w
-block-load-determined κs a z w e f p q = one p q
+pub slices-load-determined : (κs : _) (a : _) (z w : _) (e f : _) → slices-load.Learnt κs a z e → slices-load.Learnt κs a w f → z ≡ w
+slices-load-determined κs a z w e f p q = one p q
 
-pub block-store-determined : (κs : _) (a : _) (z w : _) (e f : _) → block-store.Learnt κs a z e → block-store.Learnt κs a w f → now (e .0) ≡ now (f .0)
-block-store-determined κs a z w e f p q = one p q
+pub slices-store-determined : (κs : _) (a : _) (z w : _) (e f : _) → slices-store.Learnt κs a z e → slices-store.Learnt κs a w f → now (e .0) ≡ now (f .0)
+slices-store-determined κs a z w e f p q = one p q
 
-pub block-copy-determined : (κs : _) (a : _) (z w : _) (e f : _) → block-copy.Learnt κs a z e → block-copy.Learnt κs a w f → now (e .0) ≡ now (f .0)
-block-copy-determined κs a z w e f p q = one p q
+pub slices-copy-determined : (κs : _) (a : _) (z w : _) (e f : _) → slices-copy.Learnt κs a z e → slices-copy.Learnt κs a w f → now (e .0) ≡ now (f .0)
+slices-copy-determined κs a z w e f p q = one p q
 
-pub block-clear-determined : (κs : _) (a : _) (z w : _) (e f : _) → block-clear.Learnt κs a z e → block-clear.Learnt κs a w f → now (e .0) ≡ now (f .0)
-block-clear-determined κs a z w e f p q = one p q
+pub slices-clear-determined : (κs : _) (a : _) (z w : _) (e f : _) → slices-clear.Learnt κs a z e → slices-clear.Learnt κs a w f → now (e .0) ≡ now (f .0)
+slices-clear-determined κs a z w e f p q = one p q
 
-pub block-same-bytes-determined : (κs : _) (a : _) (z w : _) (e f : _) → block-same-bytes.Learnt κs a z e → block-same-bytes.Learnt κs a w f → z ≡ w
-block-same-bytes-determined κs a z w e f p q = one p q
+pub slices-same-bytes-determined : (κs : _) (a : _) (z w : _) (e f : _) → slices-same-bytes.Learnt κs a z e → slices-same-bytes.Learnt κs a w f → z ≡ w
+slices-same-bytes-determined κs a z w e f p q = one p q
 
 -- ---- Numbers in bytes: `numbers`
 

@@ -1,3 +1,1 @@
 pub mod Arrays
-mod Same
-mod Stores

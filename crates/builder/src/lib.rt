@@ -51,7 +51,7 @@ pub fn put(out: &mut [u8], at: usize, s: &[u8]) -> usize
 {
     let size = s.len();
     numbers::put_two(out, at, size);
-    block::copy(out, at + 2, s);
+    slices::copy(out, at + 2, s);
     at + 2 + size
 }
 

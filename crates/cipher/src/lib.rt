@@ -33,8 +33,8 @@ pub fn encrypt(k: key::Key, delta: [u8; 16], text: &[u8], out: &mut [u8])
         hash::prf(k, delta, out);
         return;
     }
-    block::copy(out, 0, text);
-    block::clear(&mut out[n..]);
+    slices::copy(out, 0, text);
+    slices::clear(&mut out[n..]);
     cipher_in_place(k, delta, Way::Encipher, out);
 }
 
@@ -45,8 +45,8 @@ fn decrypt_empty(k: key::Key, delta: [u8; 16], sealed: &[u8], out: &mut [u8]) ->
     ensures { λ r. ⌜ (r ≡ opens (decryptUnder (E (blocks k)) delta (length (now (sealed .entry))) (now (sealed .entry)))) × (now (out .exit) ≡ replicate (length (now (out .entry))) 0) ⌝ }
 {
     hash::prf(k, delta, out);
-    let right = block::same_bytes(sealed, out);
-    block::clear(out);
+    let right = slices::same_bytes(sealed, out);
+    slices::clear(out);
     right
 }
 
@@ -60,13 +60,13 @@ pub fn decrypt(k: key::Key, delta: [u8; 16], stretch: usize, sealed: &[u8], out:
     if n == stretch {
         return decrypt_empty(k, delta, sealed, out);
     }
-    block::copy(out, 0, sealed);
+    slices::copy(out, 0, sealed);
     cipher_in_place(k, delta, Way::Decipher, out);
     let at = n - stretch;
     let zeros = [0u8; 64];
-    if block::same_bytes(&out[at..n], &zeros[0..stretch]) {
+    if slices::same_bytes(&out[at..n], &zeros[0..stretch]) {
         return true;
     }
-    block::clear(out);
+    slices::clear(out);
     false
 }

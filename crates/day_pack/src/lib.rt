@@ -246,7 +246,7 @@ fn put_marked(
     let end = pack_records(out, first, records, last, start, dropped, table, &before);
     day_place::put_index(out, start, kept, end);
     let n = end + 4 + 4 * kept;
-    block::clear(&mut out[n..size]);
+    slices::clear(&mut out[n..size]);
     n
 }
 

@@ -33,7 +33,7 @@ pub fn put_record(out: &mut [u8], at: usize, number: usize, stretch: usize, seal
     numbers::put_two(out, at, number);
     out[at + 2] = stretch as u8;
     numbers::put_four(out, at + 3, sealed.len());
-    block::copy(out, at + 7, sealed);
+    slices::copy(out, at + 7, sealed);
 }
 
 // The records put at a place. The place after them is returned.

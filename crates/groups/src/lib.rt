@@ -39,7 +39,7 @@ fn one_block(s: &[u8], at: usize) -> Columns
     if s.len() < at + 16 {
         return [0u32; 4];
     }
-    let x = block::load(s, at);
+    let x = slices::load(s, at);
     columns::of_block(x)
 }
 

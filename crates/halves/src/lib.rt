@@ -128,7 +128,7 @@ pub fn halves_of(s: &[u8], bits: Columns) -> Halves
 {
     let n = s.len();
     let mut x = [0u8; 32];
-    block::copy(&mut x, 0, s);
+    slices::copy(&mut x, 0, s);
     let first = part(&x, 0);
     let second = part(&x, n);
     let a = columns::of_block(first);
@@ -150,8 +150,8 @@ pub fn put_joined(t: Halves, s: &mut [u8])
     let r = unpack(block_r);
     let l = unpack(block_l);
     let mut h = [0u8; 64];
-    block::copy(&mut h, 0, &r[..n]);
-    block::copy(&mut h, n, &l[..n]);
+    slices::copy(&mut h, 0, &r[..n]);
+    slices::copy(&mut h, n, &l[..n]);
     let m = n + n;
     put_bytes(s, &h[..m]);
 }

@@ -59,9 +59,9 @@ pub fn key_of(s: &[u8]) -> Key
     requires { ⌜ length (now s) ≡ 48 ⌝ }
     ensures { λ r. ⌜ (blocks r ≡ keyOf (now (s .entry))) × Kept r ⌝ }
 {
-    let i = block::load(s, 0);
-    let j = block::load(s, 16);
-    let l = block::load(s, 32);
+    let i = slices::load(s, 0);
+    let j = slices::load(s, 16);
+    let l = slices::load(s, 32);
     record_of(i, j, l)
 }
 

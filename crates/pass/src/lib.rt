@@ -52,8 +52,8 @@ pub fn put_two(part: &mut [u8], a: [u8; 16], b: [u8; 16])
     requires { ⌜ length (now part) ≡ 32 ⌝ }
     ensures { λ _. ⌜ now (part .exit) ≡ a ++ b ⌝ }
 {
-    block::store(part, 0, a);
-    block::store(part, 16, b);
+    slices::store(part, 0, a);
+    slices::store(part, 16, b);
 }
 
 // Line 226: a pair M_i M′_i becomes W_i X_i, and X_i is returned. power is the power of L for the number b of the pair.
@@ -61,8 +61,8 @@ fn first_pair(k: tbc::Base, m: &[u32; 32], b: u32, power: Columns, part: &mut [u
     requires { ⌜ (1 ≤ b) × (length (now part) ≡ 32) × (power ≡ columnsOf (twoTo ((b - 1) / 8) (base k .L))) × OfJ k (now m) ⌝ }
     ensures { λ r. ⌜ (r ≡ firstX (E (base k)) b (now (part .entry))) × (now (part .exit) ≡ firstPair (E (base k)) b (now (part .entry))) ⌝ }
 {
-    let left = block::load(part, 0);
-    let right = block::load(part, 16);
+    let left = slices::load(part, 0);
+    let right = slices::load(part, 16);
     let w = added_at(k, m, b, power, left, right);
     let x = added(k, m, pairs::Pair::A, right, w);
     put_two(part, w, x);
@@ -83,8 +83,8 @@ fn second_pair(
 {
     let p = pairs::Pair::AA_I.at(b);
     let s = tbc::e_running(k, m, p, power, sum);
-    let left = block::load(part, 0);
-    let right = block::load(part, 16);
+    let left = slices::load(part, 0);
+    let right = slices::load(part, 16);
     let y = block::xor(left, s);
     let z = block::xor(right, s);
     let second = added(k, m, pairs::Pair::A, y, z);

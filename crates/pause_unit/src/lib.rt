@@ -20,7 +20,7 @@ pub fn is_rest(text: &[u8], at: usize, s: &[u8]) -> bool
     if text.len() - at != s.len() {
         return false;
     }
-    block::same_bytes(&text[at..], s)
+    slices::same_bytes(&text[at..], s)
 }
 
 // The microseconds in a thousandth of the unit that stands from a place to the end, and 0 where none does.

@@ -114,7 +114,7 @@ fn add_full(k: tbc::Base, m: &[u32; 32], mask: Columns, t: &[u8], g: &mut Group,
     let mut at: usize = 0;
     let mut j: u32 = 1;
     while 16 <= t.len() - at {
-        let x = block::load(t, at);
+        let x = slices::load(t, at);
         let y = masked(m, j, power, mask, x);
         let more = add_block(k, g, hashed, y);
         hashed = more;

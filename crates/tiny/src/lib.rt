@@ -56,7 +56,7 @@ fn last_step(k: tbc::Base, m: &[u32; 32], delta: [u8; 16], s: &mut [u8])
         return;
     }
     let mut x = [0u8; 16];
-    block::copy(&mut x, 0, s);
+    slices::copy(&mut x, 0, s);
     x[0] = x[0] | 128;
     let y = block::xor(delta, x);
     let e = tbc::e(k, m, pairs::Pair::TINY_LAST, y);

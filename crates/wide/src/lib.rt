@@ -69,7 +69,7 @@ fn with_uv(k: tbc::Base, m: &[u32; 32], total: [u8; 16], uv: &[u8]) -> [u8; 16]
         let short = block::pad(uv);
         return pass::added(k, m, pairs::Pair::U, total, short);
     }
-    let u = block::load(uv, 0);
+    let u = slices::load(uv, 0);
     let more = pass::added(k, m, pairs::Pair::U, total, u);
     let v = block::pad(&uv[16..d]);
     pass::added(k, m, pairs::Pair::V, more, v)
@@ -118,8 +118,8 @@ fn middle(
     requires { ⌜ (length (now last) ≡ 32) × OfJ k (now m) ⌝ }
     ensures { λ r. ⌜ (r .sx ≡ sxOf (E (base k)) delta (firstOf way) total (now (last .entry))) × (r .sy ≡ syOf (E (base k)) delta (firstOf way) total (now (last .entry))) × (r .s ≡ r .sx ⊕ r .sy) ⌝ }
 {
-    let mx = block::load(last, 0);
-    let my = block::load(last, 16);
+    let mx = slices::load(last, 0);
+    let my = slices::load(last, 16);
     let i = pairs_of(way);
     let a = block::xor(mx, delta);
     let b = block::xor(a, total);

@@ -1,4 +1,4 @@
--- `block::load` meets its contract. The invariant: the first i bytes are those of the part.
+-- `slices::load` meets its contract. The invariant: the first i bytes are those of the part.
 use mathlib.Core.List.{List}
 use mathlib.Core.Path.{_≡_, refl, sym, _∙_}
 use Prim.Native.Nat.{ℕ, _-_, _≤_}
@@ -7,8 +7,8 @@ use borrow.Author.Needs.{needs}
 use lib.ListN.{length, take, drop, length-drop}
 use lib.Seq.{length-take-le, getD-take, getD-drop}
 use Rattle.laws.proofs.Fronts.{Front, front-more, front-all}
-use Rattle.block.proofs.load.Statement.{statement}
-use Rattle.block.proofs.load.Tie as tie
+use Rattle.slices.proofs.load.Statement.{statement}
+use Rattle.slices.proofs.load.Tie as tie
 
 abbrev Inv-loop : tie.InvT-loop
 Inv-loop s at r₀ i₀ r i = (i ≤ 16) × Front (take 16 (drop at s)) r i

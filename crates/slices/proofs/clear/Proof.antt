@@ -1,12 +1,12 @@
--- `block::clear` meets its contract. The invariant: the first i bytes are zero.
+-- `slices::clear` meets its contract. The invariant: the first i bytes are zero.
 use mathlib.Core.Path.{_≡_, refl, sym, _∙_}
 use Prim.Native.Nat.{ℕ, _-_, _≤_}
 use native.Mathlib.Omega.{arith}
 use borrow.Author.Needs.{needs}
 use lib.ListN.{length, replicate, getD-replicate, length-replicate}
 use Rattle.laws.proofs.Fronts.{Front, front-more, front-all}
-use Rattle.block.proofs.clear.Statement.{statement}
-use Rattle.block.proofs.clear.Tie as tie
+use Rattle.slices.proofs.clear.Statement.{statement}
+use Rattle.slices.proofs.clear.Tie as tie
 
 abbrev Inv-loop : tie.InvT-loop
 Inv-loop s₀ i₀ i-end s i = (i ≤ length s₀) × (i-end ≡ length s₀) × Front (replicate (length s₀) 0) s i × (length s ≡ length s₀)

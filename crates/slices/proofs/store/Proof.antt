@@ -1,12 +1,12 @@
--- `block::store` meets its contract. The invariant: the first i bytes of the block stand in their place.
+-- `slices::store` meets its contract. The invariant: the first i bytes of the block stand in their place.
 use mathlib.Core.Path.{_≡_}
 use Prim.Native.Nat.{_-_, _≤_}
 use native.Mathlib.Omega.{arith}
 use borrow.Author.Needs.{needs}
 use lib.ListN.{length}
-use Rattle.block.proofs.Stores.{Stored, stored-none, stored-more, stored-all}
-use Rattle.block.proofs.store.Statement.{statement}
-use Rattle.block.proofs.store.Tie as tie
+use Rattle.slices.proofs.Stores.{Stored, stored-none, stored-more, stored-all}
+use Rattle.slices.proofs.store.Statement.{statement}
+use Rattle.slices.proofs.store.Tie as tie
 
 abbrev Inv-loop : tie.InvT-loop
 Inv-loop s₀ at b i₀ s i = (i ≤ 16) × Stored s₀ at b s i

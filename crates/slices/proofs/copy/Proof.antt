@@ -1,12 +1,12 @@
--- `block::copy` meets its contract. The invariant: the first i bytes of t stand in their place.
+-- `slices::copy` meets its contract. The invariant: the first i bytes of t stand in their place.
 use mathlib.Core.Path.{refl}
 use Prim.Native.Nat.{_-_, _≤_}
 use native.Mathlib.Omega.{arith}
 use borrow.Author.Needs.{needs}
 use lib.ListN.{length}
-use Rattle.block.proofs.Stores.{Stored, stored-none, stored-more, stored-all}
-use Rattle.block.proofs.copy.Statement.{statement}
-use Rattle.block.proofs.copy.Tie as tie
+use Rattle.slices.proofs.Stores.{Stored, stored-none, stored-more, stored-all}
+use Rattle.slices.proofs.copy.Statement.{statement}
+use Rattle.slices.proofs.copy.Tie as tie
 
 abbrev Inv-loop : tie.InvT-loop
 Inv-loop s₀ at t i₀ s i = (i ≤ length t) × Stored s₀ at t s i

@@ -1,4 +1,4 @@
--- `block::same_bytes` meets its contract. The invariant: nothing is gathered of the first i bytes just where they are equal.
+-- `slices::same_bytes` meets its contract. The invariant: nothing is gathered of the first i bytes just where they are equal.
 use mathlib.Core.Path.{_≡_, refl, ap₂, _∙_}
 use Prim.Native.Nat.{_-_, _≤_}
 use native.Mathlib.Omega.{arith}
@@ -7,9 +7,9 @@ use lib.Dec.{eqb}
 use lib.ListN.{length, take}
 use lib.Seq.{take-all}
 use Rattle.paper.specs.Strings.{same}
-use Rattle.block.proofs.Same.{step}
-use Rattle.block.proofs.same_bytes.Statement.{statement}
-use Rattle.block.proofs.same_bytes.Tie as tie
+use Rattle.slices.proofs.Same.{step}
+use Rattle.slices.proofs.same_bytes.Statement.{statement}
+use Rattle.slices.proofs.same_bytes.Tie as tie
 
 abbrev Inv-loop : tie.InvT-loop
 Inv-loop a b found₀ i₀ found i = (i ≤ length a) × (eqb found 0 ≡ same (take i a) (take i b))
