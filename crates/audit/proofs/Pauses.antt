@@ -23,10 +23,10 @@ use Rattle.pause_unit.proofs.with_unit.Reads as pause-with-unit
 use Rattle.pause_mark.proofs.header_mark.Reads as pause-header-mark
 use Rattle.pause_text.proofs.read_text.Reads as pause-read-text
 use Rattle.pause.proofs.read_field.Reads as pause-read-field
-use Rattle.line.proofs.with_mean.Reads as line-with-mean
+use Rattle.mean.proofs.with_mean.Reads as mean-with-mean
 use Rattle.line.proofs.line_length.Reads as line-line-length
 use Rattle.line.proofs.put_line.Reads as line-put-line
-use Rattle.line.proofs.put_figures.Reads as line-put-figures
+use Rattle.mean.proofs.put_figures.Reads as mean-put-figures
 use Rattle.pause_sum.proofs.added.Reads as pause-added
 use Rattle.ledger.proofs.report.Reads as ledger-report
 use Rattle.ledger.proofs.figures.Reads as ledger-figures
@@ -58,8 +58,8 @@ exported-pause-determined κs a z w e f p q = (p .0 ∙ sym (q .0), p .1 ∙ sym
 pub pause-added-determined : (κs : _) (a : _) (z w : _) (e f : _) → pause-added.Learnt κs a z e → pause-added.Learnt κs a w f → z ≡ w
 pause-added-determined κs a z w e f p q = p ∙ sym q
 
-pub line-with-mean-determined : (κs : _) (a : _) (z w : _) (e f : _) → line-with-mean.Learnt κs a z e → line-with-mean.Learnt κs a w f → z ≡ w
-line-with-mean-determined κs a z w e f p q =
+pub mean-with-mean-determined : (κs : _) (a : _) (z w : _) (e f : _) → mean-with-mean.Learnt κs a z e → mean-with-mean.Learnt κs a w f → z ≡ w
+mean-with-mean-determined κs a z w e f p q =
     ap (λ (r : Report). record { read = r .read; refused = r .refused; sum = r .sum; longest = r .longest; over = r .over; under = r .under }) (p ∙ sym q)
 
 pub line-line-length-determined : (κs : _) (a : _) (z w : _) (e f : _) → line-line-length.Learnt κs a z e → line-line-length.Learnt κs a w f → z ≡ w
@@ -68,8 +68,8 @@ line-line-length-determined κs a z w e f p q = p ∙ sym q
 pub line-put-line-determined : (κs : _) (a : _) (z w : _) (e f : _) → line-put-line.Learnt κs a z e → line-put-line.Learnt κs a w f → now (e .1 .0) ≡ now (f .1 .0)
 line-put-line-determined κs a z w e f p q = p ∙ sym q
 
-pub line-put-figures-determined : (κs : _) (a : _) (z w : _) (e f : _) → line-put-figures.Learnt κs a z e → line-put-figures.Learnt κs a w f → now (e .1 .0) ≡ now (f .1 .0)
-line-put-figures-determined κs a z w e f p q = p ∙ sym q
+pub mean-put-figures-determined : (κs : _) (a : _) (z w : _) (e f : _) → mean-put-figures.Learnt κs a z e → mean-put-figures.Learnt κs a w f → now (e .1 .0) ≡ now (f .1 .0)
+mean-put-figures-determined κs a z w e f p q = p ∙ sym q
 
 one-outcome : (z w : Answer) (X Y : List ℕ) → outcome z X ≡ outcome w Y → (z ≡ w) × (X ≡ Y)
 one-outcome z w X Y e = (ap (λ (o : Outcome). record { number = o .number; length = o .size }) e, ap (λ (o : Outcome). o .output) e)

@@ -19,8 +19,8 @@ use Rattle.laws.specs.Placing.{placed}
 use Rattle.day.specs.declared.Checked.the-variants as checked
 use Rattle.day.specs.Checks.{checkedAs}
 use Rattle.day_find.specs.Finds.{headersIn}
-use Rattle.line.specs.declared.Report.{Report}
-use Rattle.line.specs.Reports.{meaning}
+use Rattle.mean.specs.declared.Report.{Report}
+use Rattle.mean.specs.Reports.{meaning}
 use Rattle.ledger.specs.declared.Told.{Told}
 use Rattle.ledger.specs.declared.Told.the-variants as told
 use Rattle.ledger.specs.Pauses.{pausesIn}

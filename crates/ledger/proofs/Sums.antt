@@ -17,7 +17,7 @@ use Rattle.paper.specs.Ledger.{pauseOf, pausesOf, readCount, refusedCount, sumO
 use Rattle.laws.proofs.LedgerSums.{read-or-refused, few-pauses, sum-below}
 use Rattle.pause_unit.specs.declared.Read.{Read}
 use Rattle.pause_unit.specs.declared.Read.the-variants as read
-use Rattle.line.specs.declared.Totals.{Totals}
+use Rattle.mean.specs.declared.Totals.{Totals}
 use Rattle.day_find.specs.Finds.{recordsIn}
 use Rattle.pause_sum.specs.Added.{addedTo, microsecondsIn}
 use Rattle.ledger.specs.Pauses.{takenAs, pausesIn, totalsOf}

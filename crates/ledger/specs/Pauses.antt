@@ -10,7 +10,7 @@ use Rattle.paper.specs.Pause.{Pause, noPause}
 use Rattle.paper.specs.Ledger.{pausesOf, readCount, refusedCount, sumOf, longestOf}
 use Rattle.pause_unit.specs.declared.Read.{Read}
 use Rattle.pause_unit.specs.declared.Read.the-variants as read
-use Rattle.line.specs.declared.Totals.{Totals}
+use Rattle.mean.specs.declared.Totals.{Totals}
 
 -- a pause that was read, and any refusal
 abbrev pub takenAs : Pause → Read

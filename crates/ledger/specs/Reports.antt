@@ -7,7 +7,7 @@ use Rattle.paper.specs.Strings.{Bytes, if_then_else_}
 use Rattle.paper.specs.DayFile.{Day}
 use Rattle.paper.specs.Ledger as paper
 use Rattle.paper.specs.Ledger.{pausesOf, reportOf}
-use Rattle.line.specs.declared.Report.{Report}
+use Rattle.mean.specs.declared.Report.{Report}
 use Rattle.ledger.specs.declared.Told.{Told}
 use Rattle.ledger.specs.declared.Told.the-variants as told
 

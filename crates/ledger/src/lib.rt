@@ -4,8 +4,8 @@
 use answer::Answer;
 use answer::StretchBytes;
 use day::Checked;
-use line::Report;
-use line::Totals;
+use mean::Report;
+use mean::Totals;
 use pause_mark::Mark;
 use pause_unit::Read;
 ghost use mathlib.Core.Path.{_≡_};
@@ -18,7 +18,7 @@ ghost use Rattle.answer.specs.Outcomes.{outcome};
 ghost use Rattle.day_find.specs.Finds.{headersIn, recordsIn};
 ghost use Rattle.day_marks.specs.Marks.{marksOf};
 ghost use Rattle.pause_mark.specs.Marks.{markAs};
-ghost use Rattle.line.specs.Reports.{meaning};
+ghost use Rattle.mean.specs.Reports.{meaning};
 ghost use Rattle.ledger.specs.Pauses.{takenAs, pausesIn, pauseAt, totalsOf};
 ghost use Rattle.ledger.specs.Reports.{reportedAs};
 
@@ -103,7 +103,7 @@ fn report_of(key: &[u8], file: &[u8], headers: usize, records: usize) -> Report
     ensures { λ r. ⌜ meaning r ≡ reportOf (pausesIn (now (key .entry)) (readDay (now (file .entry)))) ⌝ }
 {
     let t = totals(key, file, headers, records);
-    line::with_mean(t)
+    mean::with_mean(t)
 }
 
 // The report of a file, or the number by which it is refused: 9, then 1. The key's length is tested also where there is no record.
@@ -157,7 +157,7 @@ pub fn figures(key: &[u8], file: &[u8], out: &mut [u64]) -> Answer
                     length: 0,
                 };
             }
-            line::put_figures(r, out);
+            mean::put_figures(r, out);
             Answer {
                 number: 0,
                 length: 6,

@@ -12,7 +12,7 @@ use Rattle.paper.specs.Ledger.{decimal, lineOf}
 use Rattle.laws.proofs.Decimals.{decimal-digit, decimal-more, decimal-some}
 use Rattle.laws.specs.Placing.{placed}
 use Rattle.laws.proofs.Placed.{placed-then, Begun, begun-more}
-use Rattle.line.specs.Reports.{decimalThen}
+use Rattle.line.specs.Fields.{decimalThen}
 
 -- ---- One byte more in front of what was put
 

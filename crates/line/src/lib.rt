@@ -1,68 +1,12 @@
-// The report of some totals, request E12: their mean in lowest terms, and the line in decimal.
-ghost use mathlib.Core.List.{[], _∷_};
+// The line of a report, request E12: its figures in decimal.
+use mean::Report;
 ghost use mathlib.Core.Path.{_≡_};
 ghost use Prim.Native.Nat.{_+_, _<_, _≤_};
 ghost use lib.ListN.{length};
-ghost use Rattle.paper.specs.Ledger.{decimal, gcd, lineOf, figuresOf};
+ghost use Rattle.paper.specs.Ledger.{decimal, lineOf};
 ghost use Rattle.laws.specs.Placing.{placed};
-ghost use Rattle.line.specs.Reports.{meaning, withMean, decimalThen};
-
-// Records read and refused, the sum of the pauses, and the longest.
-pub struct Totals {
-    pub read: u64,
-    pub refused: u64,
-    pub sum: u64,
-    pub longest: u64,
-}
-
-// The totals, and the mean's fraction.
-pub struct Report {
-    pub read: u64,
-    pub refused: u64,
-    pub sum: u64,
-    pub longest: u64,
-    pub over: u64,
-    pub under: u64,
-}
-
-// The greatest common divisor, by Euclid.
-fn divisor(a: u64, b: u64) -> u64
-    ensures { λ r. ⌜ r ≡ gcd a b ⌝ }
-{
-    let mut x = a;
-    let mut y = b;
-    while y != 0 {
-        let rest = x % y;
-        x = y;
-        y = rest;
-    }
-    x
-}
-
-// The report of some totals: their mean is 0/1 where nothing was read.
-pub fn with_mean(t: Totals) -> Report
-    ensures { λ r. ⌜ meaning r ≡ withMean t ⌝ }
-{
-    if t.read == 0 {
-        return Report {
-            read: t.read,
-            refused: t.refused,
-            sum: t.sum,
-            longest: t.longest,
-            over: 0,
-            under: 1,
-        };
-    }
-    let d = divisor(t.sum, t.read);
-    Report {
-        read: t.read,
-        refused: t.refused,
-        sum: t.sum,
-        longest: t.longest,
-        over: t.sum / d,
-        under: t.read / d,
-    }
-}
+ghost use Rattle.mean.specs.Reports.{meaning};
+ghost use Rattle.line.specs.Fields.{decimalThen};
 
 // How many decimal digits a number has.
 fn decimal_length(n: u64) -> usize
@@ -127,17 +71,4 @@ pub fn put_line(r: Report, out: &mut [u8])
     let fifth = put_field(out, fourth, r.longest, b' ');
     let sixth = put_field(out, fifth, r.over, b'/');
     put_field(out, sixth, r.under, b'\n');
-}
-
-// The six numbers put first in out.
-pub fn put_figures(r: Report, out: &mut [u64])
-    requires { ⌜ 6 ≤ length (now out) ⌝ }
-    ensures { λ _. ⌜ now (out .exit) ≡ placed 0 (figuresOf (meaning r)) (now (out .entry)) ⌝ }
-{
-    out[0] = r.read;
-    out[1] = r.refused;
-    out[2] = r.sum;
-    out[3] = r.longest;
-    out[4] = r.over;
-    out[5] = r.under;
 }

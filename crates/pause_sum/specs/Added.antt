@@ -2,7 +2,7 @@
 use Prim.Native.Nat.{ℕ, _+_, max}
 use Rattle.pause_unit.specs.declared.Read.{Read}
 use Rattle.pause_unit.specs.declared.Read.the-variants as read
-use Rattle.line.specs.declared.Totals.{Totals}
+use Rattle.mean.specs.declared.Totals.{Totals}
 
 -- the totals with one more
 abbrev pub addedTo : Totals → Read → Totals

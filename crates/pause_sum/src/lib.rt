@@ -1,5 +1,5 @@
 // The totals of pauses with one pause more, request E12.
-use line::Totals;
+use mean::Totals;
 use pause_unit::Read;
 ghost use mathlib.Core.Path.{_≡_};
 ghost use Prim.Native.Nat.{_+_, _<_, max};

@@ -2,7 +2,7 @@
 use mathlib.Core.Path.{ap, _∙_}
 use borrow.Author.Needs.{needs}
 use Rattle.paper.specs.Ledger.{reportOf}
-use Rattle.line.specs.Reports.{withMean}
+use Rattle.mean.specs.Reports.{withMean}
 use Rattle.ledger.proofs.report_of.Statement.{statement}
 use Rattle.ledger.proofs.report_of.Tie as tie
 

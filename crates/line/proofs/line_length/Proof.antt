@@ -1,6 +1,6 @@
 -- `line::line_length` meets its contract.
 use native.Mathlib.Omega.{arith}
-use Rattle.line.specs.Reports.{meaning}
+use Rattle.mean.specs.Reports.{meaning}
 use Rattle.line.proofs.Putting.{line-long}
 use borrow.Author.Needs.{needs}
 use Rattle.line.proofs.line_length.Statement.{statement}

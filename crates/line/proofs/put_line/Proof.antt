@@ -3,7 +3,7 @@ use mathlib.Core.Path.{_≡_, _∙_}
 use native.Mathlib.Omega.{arith}
 use lib.ListN.{length}
 use Rattle.paper.specs.Ledger as paper
-use Rattle.line.specs.Reports.{meaning}
+use Rattle.mean.specs.Reports.{meaning}
 use Rattle.line.proofs.Putting.{fields-long, together}
 use Rattle.line.proofs.put_line.Statement.{statement}
 use Rattle.line.proofs.put_line.Tie as tie

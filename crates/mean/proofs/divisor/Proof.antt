@@ -1,12 +1,12 @@
--- `line::divisor` meets its contract. The invariant: the divisor of the two numbers at hand is that of the first two.
+-- `mean::divisor` meets its contract. The invariant: the divisor of the two numbers at hand is that of the first two.
 use mathlib.Core.Path.{_≡_, refl, sym, _∙_}
 use native.Mathlib.Nat.{mod-lt}
 use native.Mathlib.Omega.{arith}
 use borrow.Author.Needs.{needs}
 use Rattle.paper.specs.Ledger.{gcd}
 use Rattle.laws.proofs.Means.{gcd-step, gcd-end}
-use Rattle.line.proofs.divisor.Statement.{statement}
-use Rattle.line.proofs.divisor.Tie as tie
+use Rattle.mean.proofs.divisor.Statement.{statement}
+use Rattle.mean.proofs.divisor.Tie as tie
 
 abbrev Inv-loop : tie.InvT-loop
 Inv-loop a b x₀ y₀ x y = gcd a b ≡ gcd x y

@@ -1,12 +1,12 @@
--- `line::put_figures` meets its contract.
+-- `mean::put_figures` meets its contract.
 use native.Mathlib.Omega.{arith}
 use lib.ListN.{length-set}
 use lib.Seq.{sets-eq}
 use Rattle.paper.specs.Ledger.{figuresOf}
-use Rattle.line.specs.Reports.{meaning}
+use Rattle.mean.specs.Reports.{meaning}
 use borrow.Author.Needs.{needs}
-use Rattle.line.proofs.put_figures.Statement.{statement}
-use Rattle.line.proofs.put_figures.Tie as tie
+use Rattle.mean.proofs.put_figures.Statement.{statement}
+use Rattle.mean.proofs.put_figures.Tie as tie
 
 slice-write-out : tie.Need-slice-write-out
 slice-write-out c = search needs

@@ -1,14 +1,14 @@
--- `line::with_mean` meets its contract.
+-- `mean::with_mean` meets its contract.
 use mathlib.Core.Path.{_≡_, ap, sym, _∙_}
 use Prim.Native.Nat.{ℕ, _/_, _<_}
 use native.Mathlib.Omega.{arith}
 use Rattle.paper.specs.Ledger.{meanOver, meanUnder}
 use Rattle.laws.proofs.Means.{mean-none, mean-some, gcd-positive}
-use Rattle.line.specs.declared.Totals.{Totals}
-use Rattle.line.specs.Reports.{meaning, withMean}
+use Rattle.mean.specs.declared.Totals.{Totals}
+use Rattle.mean.specs.Reports.{meaning, withMean}
 use borrow.Author.Needs.{needs}
-use Rattle.line.proofs.with_mean.Statement.{statement}
-use Rattle.line.proofs.with_mean.Tie as tie
+use Rattle.mean.proofs.with_mean.Statement.{statement}
+use Rattle.mean.proofs.with_mean.Tie as tie
 
 -- the totals, and a fraction that is their mean's
 by-mean : (t : Totals) (over under : ℕ) → over ≡ meanOver (t .sum) (t .read) → under ≡ meanUnder (t .sum) (t .read)
