@@ -72,6 +72,7 @@ use Rattle.key.proofs.key_of.Reads as key-key-of
 use Rattle.key.proofs.Key.base.Reads as key-base
 use Rattle.key.proofs.Key.multiples.Reads as key-multiples
 use Rattle.key.proofs.Key.row_mask.Reads as key-row-mask
+use Rattle.levels.proofs.turn.Reads as levels-turn
 use Rattle.planes.proofs.of_blocks.Reads as planes-of-blocks
 use Rattle.planes.proofs.to_blocks.Reads as planes-to-blocks
 use Rattle.planes.proofs.copies.Reads as planes-copies
@@ -281,6 +282,11 @@ columns-xor-determined κs a z w e f p q = one p q
 
 pub columns-double-determined : (κs : _) (a : _) (z w : _) (e f : _) → columns-double.Learnt κs a z e → columns-double.Learnt κs a w f → z ≡ w
 columns-double-determined κs a z w e f p q = one p q
+
+-- ---- Words turned over: `levels`
+
+pub levels-turn-determined : (κs : _) (a : _) (z w : _) (e f : _) → levels-turn.Learnt κs a z e → levels-turn.Learnt κs a w f → now (e .0) ≡ now (f .0)
+levels-turn-determined κs a z w e f p q = one p q
 
 -- ---- Sixteen blocks on planes: `planes`
 

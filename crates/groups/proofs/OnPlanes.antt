@@ -12,7 +12,8 @@ use Rattle.laws.proofs.Strings.{⊕-zeros}
 use Rattle.laws.proofs.WordBits.{number, bit-zero}
 use Rattle.columns.specs.Columns.{columnsOf, blockOf}
 use Rattle.columns.proofs.Conversions.{block-columns}
-use Rattle.planes.specs.Planes.{lane, planeBlock, placeOf, upTo, planeBlocks, turned, columnsIn, groupBlock, groupOf}
+use Rattle.levels.specs.Levels.{turned}
+use Rattle.planes.specs.Planes.{lane, planeBlock, placeOf, upTo, planeBlocks, columnsIn, groupBlock, groupOf}
 use Rattle.planes.proofs.Places.{at-one}
 use Rattle.groups.specs.Groups.{entry, AES4s, fiveKeys, EndsInZero}
 use Rattle.groups.proofs.Each.{each-same}

@@ -9,24 +9,9 @@ use Rattle.paper.specs.Strings.{Bytes, tabFrom, tab}
 use Rattle.paper.specs.Fips197.{bit}
 use Rattle.laws.proofs.WordBits.{number, known, bit-lt, bit-down, low-bits, either-lt, number-bits}
 use Rattle.columns.specs.Columns.{row3, blockOf}
-use Rattle.planes.specs.Planes.{
-  lane,
-  planeBlock,
-  placeOf,
-  upTo,
-  planeBlocks,
-  bitsOf,
-  turnedBit,
-  turned,
-  joinedBit,
-  columnOf,
-  groupWords,
-  columnsIn,
-  groupOf,
-  copiedBit,
-  copied,
-}
-use Rattle.planes.proofs.Levels.{kept, bits-kept, bits-turned}
+use Rattle.levels.specs.Levels.{bitsOf, turnedBit, turned}
+use Rattle.planes.specs.Planes.{lane, planeBlock, placeOf, upTo, planeBlocks, joinedBit, columnOf, groupWords, columnsIn, groupOf, copiedBit, copied}
+use Rattle.levels.proofs.Levels.{kept, bits-kept, bits-turned}
 
 -- ---- a block by its columns
 

@@ -1,6 +1,4 @@
 mod Moves
-mod Levels
-mod Turns
 mod Fills
 mod Groups
 mod Sixteenfold

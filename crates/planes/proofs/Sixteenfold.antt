@@ -10,7 +10,8 @@ use lib.ListN.{getD}
 use Rattle.paper.specs.Strings.{if_then_else_}
 use Rattle.paper.specs.Fips197.{bit}
 use Rattle.laws.proofs.WordBits.{wordOf, known, bit-lt, bit-xor, bit-and, and-one, bit-down, bit-up, bit-word, by-bits, either-lt}
-use Rattle.planes.specs.Planes.{bitsOf, wordsOf, joinedBit, spreadBit, copiedBit, copied}
+use Rattle.levels.specs.Levels.{bitsOf, wordsOf}
+use Rattle.planes.specs.Planes.{joinedBit, spreadBit, copiedBit, copied}
 
 -- ---- one word
 

@@ -9,7 +9,8 @@ use Rattle.paper.specs.Fips197.{bit}
 use Rattle.laws.proofs.Fronts.{Front, front-more, front-all}
 use Rattle.laws.proofs.Tables.{getD-tab}
 use Rattle.laws.proofs.WordBits.{wordOf}
-use Rattle.planes.specs.Planes.{wordsOf, spreadBit}
+use Rattle.levels.specs.Levels.{wordsOf}
+use Rattle.planes.specs.Planes.{spreadBit}
 use Rattle.planes.proofs.Groups.{in-every-place}
 use Rattle.planes.proofs.Sixteenfold.{copied-words}
 use Rattle.planes.proofs.copies.Statement.{statement}

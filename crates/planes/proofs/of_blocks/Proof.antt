@@ -1,7 +1,7 @@
 -- `planes::of_blocks` meets its contract.
 use mathlib.Core.Path.{ap, _∙_}
 use borrow.Author.Needs.{needs}
-use Rattle.planes.specs.Planes.{turned}
+use Rattle.levels.specs.Levels.{turned}
 use Rattle.planes.proofs.Groups.{on-planes}
 use Rattle.planes.proofs.of_blocks.Statement.{statement}
 use Rattle.planes.proofs.of_blocks.Tie as tie

@@ -1,8 +1,8 @@
--- `planes::exchanged` meets its contract.
+-- `levels::exchanged` meets its contract.
 use Rattle.laws.proofs.Exchange.{lower-word, upper-word}
 use borrow.Author.Needs.{needs}
-use Rattle.planes.proofs.exchanged.Statement.{statement}
-use Rattle.planes.proofs.exchanged.Tie as tie
+use Rattle.levels.proofs.exchanged.Statement.{statement}
+use Rattle.levels.proofs.exchanged.Tie as tie
 
 returns : tie.Need-returns
 returns c =

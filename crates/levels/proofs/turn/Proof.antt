@@ -1,10 +1,10 @@
--- `planes::turn` meets its contract.
+-- `levels::turn` meets its contract.
 use mathlib.Core.Path.{ap, _∙_}
 use borrow.Author.Needs.{needs}
-use Rattle.planes.specs.Planes.{far}
-use Rattle.planes.proofs.Levels.{five-levels}
-use Rattle.planes.proofs.turn.Statement.{statement}
-use Rattle.planes.proofs.turn.Tie as tie
+use Rattle.levels.specs.Levels.{far}
+use Rattle.levels.proofs.Levels.{five-levels}
+use Rattle.levels.proofs.turn.Statement.{statement}
+use Rattle.levels.proofs.turn.Tie as tie
 
 abbrev before : tie.After-far → tie.After-near
 before c = c .before .before .before .before

@@ -8,7 +8,7 @@ use lib.Dec.{ltb}
 use lib.ListN.{length, getD, set, length-set}
 use Rattle.paper.specs.Strings.{if_then_else_, tab}
 use Rattle.laws.proofs.Tables.{tab-entries}
-use Rattle.planes.specs.Planes.{leveled, near, far}
+use Rattle.levels.specs.Levels.{leveled, near, far}
 
 -- stores one after another, each a place and a word
 abbrev pub stored : List ℕ → List (ℕ × ℕ) → List ℕ

@@ -1,10 +1,10 @@
--- `planes::near_four` meets its contract.
+-- `levels::near_four` meets its contract.
 use mathlib.Core.List.{[], _∷_}
 use mathlib.Core.Path.{_∙_}
 use borrow.Author.Needs.{needs}
-use Rattle.planes.specs.Planes.{leveled, mask8}
-use Rattle.planes.proofs.near_four.Statement.{statement}
-use Rattle.planes.proofs.near_four.Tie as tie
+use Rattle.levels.specs.Levels.{leveled, mask8}
+use Rattle.levels.proofs.near_four.Statement.{statement}
+use Rattle.levels.proofs.near_four.Tie as tie
 
 returns : tie.Need-returns
 unfolding leveled

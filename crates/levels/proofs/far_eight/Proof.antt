@@ -1,10 +1,10 @@
--- `planes::far_eight` meets its contract.
+-- `levels::far_eight` meets its contract.
 use mathlib.Core.List.{[], _∷_}
 use mathlib.Core.Path.{_∙_}
 use borrow.Author.Needs.{needs}
-use Rattle.planes.specs.Planes.{leveled, mask1, mask2}
-use Rattle.planes.proofs.far_eight.Statement.{statement}
-use Rattle.planes.proofs.far_eight.Tie as tie
+use Rattle.levels.specs.Levels.{leveled, mask1, mask2}
+use Rattle.levels.proofs.far_eight.Statement.{statement}
+use Rattle.levels.proofs.far_eight.Tie as tie
 
 -- from the last exchange of a level to that of the level before
 abbrev second : tie.After-exchanged12 → tie.After-exchanged8

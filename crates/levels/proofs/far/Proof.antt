@@ -1,13 +1,13 @@
--- `planes::far` meets its contract. The invariant: the words k with k % 4 < i are new.
+-- `levels::far` meets its contract. The invariant: the words k with k % 4 < i are new.
 use mathlib.Core.List.{List}
 use mathlib.Core.Path.{_≡_, ap, _∙_}
 use Prim.Native.Nat.{ℕ, _+_, _-_, _≤_, _<_}
 use native.Mathlib.Omega.{arith}
 use borrow.Author.Needs.{needs}
 use lib.ListN.{length, take}
-use Rattle.planes.proofs.Turns.{stored, length-stored, farAfter, far-none, far-all, eightStores, far-more}
-use Rattle.planes.proofs.far.Statement.{statement}
-use Rattle.planes.proofs.far.Tie as tie
+use Rattle.levels.proofs.Turns.{stored, length-stored, farAfter, far-none, far-all, eightStores, far-more}
+use Rattle.levels.proofs.far.Statement.{statement}
+use Rattle.levels.proofs.far.Tie as tie
 
 abbrev Inv-loop : tie.InvT-loop
 Inv-loop w₀ i₀ w i = (i ≤ 4) × (length w ≡ 32) × (w ≡ farAfter w₀ i)

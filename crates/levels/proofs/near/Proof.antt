@@ -1,13 +1,13 @@
--- `planes::near` meets its contract. The invariant: the words k with k / 4 < i are new.
+-- `levels::near` meets its contract. The invariant: the words k with k / 4 < i are new.
 use mathlib.Core.List.{List}
 use mathlib.Core.Path.{_≡_, ap, _∙_}
 use Prim.Native.Nat.{ℕ, _+_, _-_, _*_, _≤_, _<_}
 use native.Mathlib.Omega.{arith}
 use borrow.Author.Needs.{needs}
 use lib.ListN.{length, take}
-use Rattle.planes.proofs.Turns.{stored, length-stored, nearAfter, near-none, near-all, fourStores, near-more}
-use Rattle.planes.proofs.near.Statement.{statement}
-use Rattle.planes.proofs.near.Tie as tie
+use Rattle.levels.proofs.Turns.{stored, length-stored, nearAfter, near-none, near-all, fourStores, near-more}
+use Rattle.levels.proofs.near.Statement.{statement}
+use Rattle.levels.proofs.near.Tie as tie
 
 abbrev Inv-loop : tie.InvT-loop
 Inv-loop w₀ i₀ w i = (i ≤ 8) × (length w ≡ 32) × (w ≡ nearAfter w₀ i)

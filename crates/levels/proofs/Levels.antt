@@ -11,7 +11,7 @@ use Rattle.paper.specs.Strings.{if_then_else_}
 use Rattle.paper.specs.Fips197.{bit}
 use Rattle.laws.proofs.Tables.{getD-tab, length-tab}
 use Rattle.laws.proofs.WordBits.{wordOf, known, bit-lt, bit-zero, either-lt, bit-word}
-use Rattle.planes.specs.Planes.{bitsOf, wordsOf, leveledBit, leveled, mask1, mask2, mask4, mask8, mask16, near, far, turnedBit, turned}
+use Rattle.levels.specs.Levels.{bitsOf, wordsOf, leveledBit, leveled, mask1, mask2, mask4, mask8, mask16, near, far, turnedBit, turned}
 
 -- the bits of 32 words that are known by them
 abbrev pub kept : (ℕ → ℕ → ℕ) → ℕ → ℕ → ℕ

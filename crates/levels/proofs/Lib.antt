@@ -1,0 +1,2 @@
+pub mod Levels
+mod Turns
