@@ -15,7 +15,7 @@ use Rattle.sub_bytes.specs.Planes.{crossedBytes}
 abbrev pub pickedBit : ℕ → (ℕ → ℕ) → (ℕ → ℕ) → ℕ → ℕ
 pickedBit m a b k = if eqb (bit m k) 0 then a k else b k
 
--- ShiftRows: column c of row r becomes column c + r
+-- ShiftRows: in row r, what column c + r was becomes column c
 abbrev pub shiftedBit : (ℕ → ℕ) → ℕ → ℕ
 shiftedBit f k = f (k / 4 * 4 + (k % 4 + (3 - k / 8)) % 4)
 

@@ -1,8 +1,8 @@
 -- Every public function of every crate is determined by its contract: any two results that the contract allows for the same arguments are
 -- equal, and so are any two contents of the lent buffer at exit. Where the contract speaks of what the words of a result mean, as in
--- `circuit`, `sub_bytes`, `sixteen` and `strings`, that meaning is what is determined. `Learnt` is a function's contract as its callers have it: the checker
--- makes it from the `ensures` in the source. In each theorem κs are lifetimes, a the arguments, z and w two results, e and f the
--- parameters at two exits.
+-- `circuit`, `sub_bytes`, `sixteen`, `strings`, `halves` and `turns`, that meaning is what is determined. `Learnt` is a function's contract
+-- as its callers have it: the checker makes it from the `ensures` in the source. In each theorem κs are lifetimes, a the arguments, z and w
+-- two results, e and f the parameters at two exits.
 use mathlib.Core.List.{List, [], map}
 use mathlib.Core.Option.{Option, none, some}
 use mathlib.Core.Path.{_≡_, refl, ap, sym, _∙_}

@@ -5,7 +5,7 @@ use mathlib.Core.Path.{_≡_, refl, ap, _∙_}
 use Prim.Native.Nat.{ℕ, zero, suc, _+_, _*_, _/_, _%_, _<_}
 use native.Mathlib.Omega.{arith}
 use lib.Dec.{ltb}
-use lib.ListN.{length, getD, set, length-set}
+use lib.ListN.{length, getD, set, length-set, take}
 use Rattle.paper.specs.Strings.{if_then_else_, tab}
 use Rattle.laws.proofs.Tables.{tab-entries}
 use Rattle.levels.specs.Levels.{leveled, near, far}
@@ -18,6 +18,10 @@ stored v (s ∷ l) = stored (set v (s .0) (s .1)) l
 pub length-stored : (v : List ℕ) (l : List (ℕ × ℕ)) → length (stored v l) ≡ length v
 length-stored v [] = refl
 length-stored v (s ∷ l) = length-stored (set v (s .0) (s .1)) l ∙ length-set v (s .0) (s .1)
+
+-- a place below 32 is within the words after some of the stores
+pub within : (v : List ℕ) (l : List (ℕ × ℕ)) (n k : ℕ) → length v ≡ 32 → k < 32 → k < length (stored v (take n l))
+within v l n k long h = omega (arith, long, h, length-stored v (take n l))
 
 -- word k has its turn after `turn k` others
 abbrev after : (ℕ → ℕ) → List ℕ → List ℕ → ℕ → List ℕ

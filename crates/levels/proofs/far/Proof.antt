@@ -5,7 +5,7 @@ use Prim.Native.Nat.{ℕ, _+_, _-_, _≤_, _<_}
 use native.Mathlib.Omega.{arith}
 use borrow.Author.Needs.{needs}
 use lib.ListN.{length, take}
-use Rattle.levels.proofs.Turns.{stored, length-stored, farAfter, far-none, far-all, eightStores, far-more}
+use Rattle.levels.proofs.Turns.{stored, length-stored, within, farAfter, far-none, far-all, eightStores, far-more}
 use Rattle.levels.proofs.far.Statement.{statement}
 use Rattle.levels.proofs.far.Tie as tie
 
@@ -15,9 +15,15 @@ Inv-loop w₀ i₀ w i = (i ≤ 4) × (length w ≡ 32) × (w ≡ farAfter w₀ 
 abbrev μ-loop : tie.MeasureT-loop
 μ-loop w₀ i₀ w i = 4 - i
 
--- the turn that a place is in, and the words there
+-- the place after four of the eight reads, the turn's test, the turn that a place is in, and the words there
+abbrev reads : tie.After-far-eight Inv-loop μ-loop → tie.After-slice-known5 Inv-loop μ-loop
+reads c = c .before .before .before .before .before
+
+abbrev tested : tie.After-far-eight Inv-loop μ-loop → tie.In-loop Inv-loop μ-loop
+tested c = reads c .before .before .before .before
+
 abbrev turn : tie.After-far-eight Inv-loop μ-loop → tie.At-loop Inv-loop μ-loop
-turn c = c .before .before .before .before .before .before .before .before .before .before
+turn c = tested c .before
 
 abbrev i : tie.After-far-eight Inv-loop μ-loop → ℕ
 i c = turn c .loop .i
@@ -26,12 +32,11 @@ abbrev v : tie.After-far-eight Inv-loop μ-loop → List ℕ
 v c = turn c .loop .w
 
 below : (c : tie.After-far-eight Inv-loop μ-loop) → i c < 4
-below c = omega (arith, c .before .before .before .before .before .before .before .before .before .loop-test .taken, turn c .loop .inv .1)
+below c = omega (arith, tested c .loop-test .taken, turn c .loop .inv .1)
 
 -- a place is within the words after n stores
-within : (c : tie.After-far-eight Inv-loop μ-loop) (n k : ℕ) → k < 32 → k < length (stored (v c) (take n (eightStores (i c) (c .far-eight .result))))
-within c n k h =
-    omega (arith, h, length-stored (v c) (take n (eightStores (i c) (c .far-eight .result))), turn c .loop .inv .1)
+abbrev place : (c : tie.After-far-eight Inv-loop μ-loop) (n k : ℕ) → k < 32 → k < length (stored (v c) (take n (eightStores (i c) (c .far-eight .result))))
+place c n k h = within (v c) (eightStores (i c) (c .far-eight .result)) n k (turn c .loop .inv .1) h
 
 loop-holds : tie.Need-loop-holds Inv-loop μ-loop
 loop-holds c =
@@ -91,31 +96,31 @@ far-spec =
     (λ c. search needs)
     (λ c. search needs)
     (λ c. search needs)
-    (λ c. within c 1 (i c + 4) (omega (arith, below c)))
+    (λ c. place c 1 (i c + 4) (omega (arith, below c)))
     (λ c. search needs)
     (λ c. search needs)
     (λ c. search needs)
-    (λ c. within c 2 (i c + 8) (omega (arith, below c)))
+    (λ c. place c 2 (i c + 8) (omega (arith, below c)))
     (λ c. search needs)
     (λ c. search needs)
     (λ c. search needs)
-    (λ c. within c 3 (i c + 12) (omega (arith, below c)))
+    (λ c. place c 3 (i c + 12) (omega (arith, below c)))
     (λ c. search needs)
     (λ c. search needs)
     (λ c. search needs)
-    (λ c. within c 4 (i c + 16) (omega (arith, below c)))
+    (λ c. place c 4 (i c + 16) (omega (arith, below c)))
     (λ c. search needs)
     (λ c. search needs)
     (λ c. search needs)
-    (λ c. within c 5 (i c + 20) (omega (arith, below c)))
+    (λ c. place c 5 (i c + 20) (omega (arith, below c)))
     (λ c. search needs)
     (λ c. search needs)
     (λ c. search needs)
-    (λ c. within c 6 (i c + 24) (omega (arith, below c)))
+    (λ c. place c 6 (i c + 24) (omega (arith, below c)))
     (λ c. search needs)
     (λ c. search needs)
     (λ c. search needs)
-    (λ c. within c 7 (i c + 28) (omega (arith, below c)))
+    (λ c. place c 7 (i c + 28) (omega (arith, below c)))
     (λ c. search needs)
     (λ c. search needs)
     loop-again

@@ -5,7 +5,7 @@ use Prim.Native.Nat.{ℕ, _+_, _-_, _*_, _≤_, _<_}
 use native.Mathlib.Omega.{arith}
 use borrow.Author.Needs.{needs}
 use lib.ListN.{length, take}
-use Rattle.levels.proofs.Turns.{stored, length-stored, nearAfter, near-none, near-all, fourStores, near-more}
+use Rattle.levels.proofs.Turns.{stored, length-stored, within, nearAfter, near-none, near-all, fourStores, near-more}
 use Rattle.levels.proofs.near.Statement.{statement}
 use Rattle.levels.proofs.near.Tie as tie
 
@@ -15,9 +15,12 @@ Inv-loop w₀ i₀ w i = (i ≤ 8) × (length w ≡ 32) × (w ≡ nearAfter w₀
 abbrev μ-loop : tie.MeasureT-loop
 μ-loop w₀ i₀ w i = 8 - i
 
--- the turn that a place is in, and the words there
+-- the turn's test, the turn that a place is in, and the words there
+abbrev tested : tie.After-near-four Inv-loop μ-loop → tie.In-loop Inv-loop μ-loop
+tested c = c .before .before .before .before .before
+
 abbrev turn : tie.After-near-four Inv-loop μ-loop → tie.At-loop Inv-loop μ-loop
-turn c = c .before .before .before .before .before .before
+turn c = tested c .before
 
 abbrev i : tie.After-near-four Inv-loop μ-loop → ℕ
 i c = turn c .loop .i
@@ -26,12 +29,11 @@ abbrev v : tie.After-near-four Inv-loop μ-loop → List ℕ
 v c = turn c .loop .w
 
 below : (c : tie.After-near-four Inv-loop μ-loop) → i c < 8
-below c = omega (arith, c .before .before .before .before .before .loop-test .taken, turn c .loop .inv .1)
+below c = omega (arith, tested c .loop-test .taken, turn c .loop .inv .1)
 
 -- a place is within the words after n stores
-within : (c : tie.After-near-four Inv-loop μ-loop) (n k : ℕ) → k < 32 → k < length (stored (v c) (take n (fourStores (i c) (c .near-four .result))))
-within c n k h =
-    omega (arith, h, length-stored (v c) (take n (fourStores (i c) (c .near-four .result))), turn c .loop .inv .1)
+abbrev place : (c : tie.After-near-four Inv-loop μ-loop) (n k : ℕ) → k < 32 → k < length (stored (v c) (take n (fourStores (i c) (c .near-four .result))))
+place c n k h = within (v c) (fourStores (i c) (c .near-four .result)) n k (turn c .loop .inv .1) h
 
 loop-holds : tie.Need-loop-holds Inv-loop μ-loop
 loop-holds c =
@@ -85,17 +87,17 @@ near-spec =
     (λ c. search needs)
     (λ c. search needs)
     (λ c. search needs)
-    (λ c. within c 1 (4 * i c + 1) (omega (arith, below c)))
+    (λ c. place c 1 (4 * i c + 1) (omega (arith, below c)))
     (λ c. search needs)
     (λ c. search needs)
     (λ c. search needs)
     (λ c. search needs)
-    (λ c. within c 2 (4 * i c + 2) (omega (arith, below c)))
+    (λ c. place c 2 (4 * i c + 2) (omega (arith, below c)))
     (λ c. search needs)
     (λ c. search needs)
     (λ c. search needs)
     (λ c. search needs)
-    (λ c. within c 3 (4 * i c + 3) (omega (arith, below c)))
+    (λ c. place c 3 (4 * i c + 3) (omega (arith, below c)))
     (λ c. search needs)
     (λ c. search needs)
     loop-again
