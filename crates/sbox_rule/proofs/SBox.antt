@@ -2,9 +2,9 @@
 use mathlib.Core.Bool.{Bool, true, false}
 use mathlib.Core.List.{[], _∷_}
 use mathlib.Core.Path.{_≡_, refl, ap, sym, subst, _∙_}
-use Prim.Native.Nat.{ℕ, suc}
+use Prim.Native.Nat.{ℕ}
 use lib.Dec.{T, ltb, ltb→lt}
-use lib.ListN.{getD, replicate}
+use lib.ListN.{getD}
 use Rattle.paper.specs.Strings.{Bytes, if_then_else_, tab}
 use Rattle.paper.specs.Fips197.{sbox, affine, inverse, squares, _•_, mulBits}
 use Rattle.laws.proofs.Tables.{getD-tab}
@@ -42,12 +42,3 @@ by-table x = go (ltb x 256) refl
     go : (b : Bool) → ltb x 256 ≡ b → sbox x ≡ (if b then getD table x 0 else sbox x)
     go true e = sym (getD-tab 256 x sbox (ltb→lt x 256 (subst T (sym e) tt))) ∙ ap (λ (l : Bytes). getD l x 0) rule
     go false e = refl
-
--- the inverse is one: b • b⁻¹ = 1 for each byte but 0, whose inverse is 0
-pub inverts : tab 255 (λ n. suc n • inverse (suc n)) ≡ replicate 255 1
-unfolding inverse squares _•_ mulBits
-inverts = refl
-
-pub no-inverse : inverse 0 ≡ 0
-unfolding inverse squares _•_ mulBits
-no-inverse = refl
