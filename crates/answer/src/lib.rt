@@ -2,14 +2,14 @@
 ghost use Rattle.std.specs.Prelude.{◌≡◌, ◌*◌, ◌≤◌};
 
 // An answer of document 01, and the length of what was written.
-#[derive(Drop)]
+#[derive(Clone, Copy)]
 pub struct Answer {
     pub number: u32,
     pub length: usize,
 }
 
 // An answer of a call that reads a header: beside 3 the number of the header's bad entry (request E5), and beside every other 0.
-#[derive(Drop)]
+#[derive(Clone, Copy)]
 pub struct AnswerAt {
     pub number: u32,
     pub length: usize,
@@ -17,11 +17,11 @@ pub struct AnswerAt {
 }
 
 // The stretch in bytes, as callers have it.
-#[derive(Drop)]
+#[derive(Clone, Copy)]
 pub struct StretchBytes(pub u64);
 
 // The stretch in bits, as the tweak holds it.
-#[derive(Drop)]
+#[derive(Clone, Copy)]
 pub struct StretchBits(pub u64);
 
 impl StretchBytes {

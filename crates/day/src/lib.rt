@@ -6,7 +6,7 @@ ghost use Rattle.day.specs.Checks.{right_index, checked_as};
 use day_steps::{Step, Walk};
 
 // How many headers and records a file has, and where its first record stands; or that it does not read.
-#[derive(Drop)]
+#[derive(Clone, Copy)]
 pub enum Checked {
     Day {
         headers: usize,

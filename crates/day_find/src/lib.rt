@@ -6,7 +6,7 @@ ghost use Rattle.day_find.specs.Finds.{headers_in, records_in, entry_in, length_
 use day_steps::Entry;
 
 // Where a record's header and its sealed bytes start and end, and its stretch.
-#[derive(Drop)]
+#[derive(Clone, Copy)]
 pub struct Found {
     pub header_start: usize,
     pub header_end: usize,

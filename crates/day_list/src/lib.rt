@@ -8,7 +8,7 @@ ghost use Rattle.day_list.specs.Lists.{headers_listed, record_place, records_lis
 use day::Checked;
 
 // What listing a file answers: the number, and how many headers and records it listed.
-#[derive(Drop)]
+#[derive(Clone, Copy)]
 pub struct Listed {
     pub number: u32,
     pub headers: usize,

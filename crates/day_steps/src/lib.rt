@@ -6,7 +6,7 @@ ghost use Rattle.day_steps.specs.Walks.{entry_at, HeaderStep, RecordStep, Header
 use header::{Place, Reading};
 
 // A record: its header's number, its stretch, and where its sealed bytes start and end. The next record stands at their end.
-#[derive(Drop)]
+#[derive(Clone, Copy)]
 pub struct Entry {
     pub header: usize,
     pub stretch: u64,
@@ -15,14 +15,14 @@ pub struct Entry {
 }
 
 // A record within the layout, or one that does not read.
-#[derive(Drop)]
+#[derive(Clone, Copy)]
 pub enum Step {
     To(Entry),
     Bad,
 }
 
 // A place that a walk came to, or that what it walks over does not read.
-#[derive(Drop)]
+#[derive(Clone, Copy)]
 pub enum Walk {
     To(usize),
     Bad,

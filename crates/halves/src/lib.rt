@@ -10,7 +10,7 @@ ghost use Rattle.halves.specs.Blocks.{front, blocks_of, packed_both, firsts, fro
 use columns::Columns;
 
 // L and R.
-#[derive(Drop)]
+#[derive(Clone, Copy)]
 pub struct Halves {
     pub l: Columns,
     pub r: Columns,

@@ -4,14 +4,14 @@ ghost use Rattle.paper.specs.Document01.{reading};
 ghost use Rattle.header.specs.Places.{entry_at, Within, count_of, Few, read_as};
 
 // A string's start and end in the header, or an entry that does not read.
-#[derive(Drop)]
+#[derive(Clone, Copy)]
 pub enum Place {
     At(usize, usize),
     Bad,
 }
 
 // How many strings a header has, or the number of its first bad entry (request E5): 0 is the count, 17 what is left over.
-#[derive(Drop)]
+#[derive(Clone, Copy)]
 pub enum Reading {
     Strings(usize),
     Bad(usize),

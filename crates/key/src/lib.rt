@@ -14,7 +14,7 @@ use tbc::Base;
 // The key: the blocks I, J and L, and the multiples of them that are kept, as columns. Only `key_of` makes one, and nothing changes it: each
 // kept block is its multiple from then on (`Meaning.Kept`). 2·I, 2·J and the multiples of L are kept because request E7 names them; what
 // Figure 6 reads are the multiples of J, and those of 8·J, which tell the rows of the hash apart.
-#[derive(Drop)]
+#[derive(Clone, Copy)]
 pub struct Key {
     i: [u8; 16],
     j: [u8; 16],

@@ -20,7 +20,7 @@ use pause_mark::Mark;
 use pause_unit::Read;
 
 // The report of a file, or the number by which it is refused.
-#[derive(Drop)]
+#[derive(Clone, Copy)]
 enum Told {
     Refused(u32),
     Is(Report),

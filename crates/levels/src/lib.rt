@@ -5,7 +5,7 @@ ghost use Rattle.laws.proofs.WordBits.{word_of};
 ghost use Rattle.laws.proofs.Exchange.{lower, upper};
 ghost use Rattle.levels.specs.Levels.{near, far, turned};
 
-#[derive(Drop)]
+#[derive(Clone, Copy)]
 struct Pair {
     a: u64,
     b: u64,

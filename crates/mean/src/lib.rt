@@ -5,7 +5,7 @@ ghost use Rattle.laws.specs.Placing.{placed};
 ghost use Rattle.mean.specs.Reports.{meaning, with_mean};
 
 // Records read and refused, the sum of the pauses, and the longest.
-#[derive(Drop)]
+#[derive(Clone, Copy)]
 pub struct Totals {
     pub read: u64,
     pub refused: u64,
@@ -14,7 +14,7 @@ pub struct Totals {
 }
 
 // The totals, and the mean's fraction.
-#[derive(Drop)]
+#[derive(Clone, Copy)]
 pub struct Report {
     pub read: u64,
     pub refused: u64,

@@ -3,7 +3,7 @@ ghost use Rattle.std.specs.Prelude.{◌≡◌, ◌+◌, ◌<◌};
 ghost use Rattle.pairs.specs.Meaning.{pair, index_pairs};
 
 // A pair of indices: whether the first is -1, the first (1 where it is -1), and the second.
-#[derive(Drop)]
+#[derive(Clone, Copy)]
 pub struct Pair(pub bool, pub u32, pub u32);
 
 // 01's table of index pairs, a row for each named use. Where the second index counts, the row has 0 for it, and `at` puts it in; the

@@ -14,7 +14,7 @@ use columns::Columns;
 use groups::Group;
 
 // The two passes over the pairs of blocks: line 226, and lines 232 and 233.
-#[derive(Drop)]
+#[derive(Clone, Copy)]
 pub enum Pass {
     First,
     Second,

@@ -7,7 +7,7 @@ use pause_mark::Mark;
 use pause_unit::Read;
 
 // 0 and the microseconds, or a refusal's number and 0.
-#[derive(Drop)]
+#[derive(Clone, Copy)]
 pub struct Field {
     pub number: u32,
     pub microseconds: u64,

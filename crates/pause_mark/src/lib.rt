@@ -8,14 +8,14 @@ ghost use Rattle.pause_mark.specs.Marks.{mark_as};
 use header::{Place, Reading};
 
 // The decimal mark of a header, or the number by which it is refused: 3 or 15.
-#[derive(Drop)]
+#[derive(Clone, Copy)]
 pub enum Mark {
     Is(u8),
     Refused(u32),
 }
 
 // A locale and its decimal mark.
-#[derive(Drop)]
+#[derive(Clone, Copy)]
 struct Locale {
     name: [u8; 2],
     mark: u8,

@@ -5,7 +5,7 @@ ghost use Rattle.paper.specs.Pause.{unit_of, times};
 ghost use Rattle.pause_unit.specs.Answers.{or_zero, read_as};
 
 // The microseconds of a text, or that it is no pause.
-#[derive(Drop)]
+#[derive(Clone, Copy)]
 pub enum Read {
     Pause(u64),
     Bad,

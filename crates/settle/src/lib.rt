@@ -6,7 +6,7 @@ use answer::StretchBytes;
 use header::Reading;
 
 // The first test that holds: its number, and beside 3 the header's bad entry that it is at. Number 0 where none holds.
-#[derive(Drop)]
+#[derive(Clone, Copy)]
 pub struct Refusal {
     pub number: u32,
     pub at: usize,

@@ -1,5 +1,5 @@
 -- Gathering what differs tells whether two strings are equal.
-use mathlib.Core.Bool.{Bool, true, false, ◌&&◌, and_true, and_assoc}
+use mathlib.Core.Bool.{Bool, true, false, ◌&&◌, and-true, and_assoc}
 use mathlib.Core.List.{List, [], ◌∷◌, ◌++◌}
 use mathlib.Core.Path.{◌≡◌, refl, ap, ap₂, sym, ◌∙◌}
 use Prim.Native.Nat.{ℕ, ◌+◌, ◌<◌}
@@ -37,7 +37,7 @@ gathered f x y = go (eqb f 0) (eqb x y) refl refl
 -- one more pair of bytes at the end of two strings of one length
 same_more : (X Y : List ℕ) (x y : ℕ) → length X ≡ length Y → same (X ++ x ∷ []) (Y ++ y ∷ []) ≡ (same X Y && eqb x y)
 unfolding same
-same_more [] [] x y e = and_true (eqb x y)
+same_more [] [] x y e = and-true (eqb x y)
 same_more [] (b ∷ Y) x y e = absurd (omega (arith, e))
 same_more (a ∷ X) [] x y e = absurd (omega (arith, e))
 same_more (a ∷ X) (b ∷ Y) x y e = ap (λ (t : Bool). eqb a b && t) (same_more X Y x y (omega (arith, e))) ∙ sym (and_assoc (eqb a b) (same X Y) (eqb x y))

@@ -17,7 +17,7 @@ const AS_ONE: usize = 4;
 
 // What is hashed so far: a sum of blocks that went through AES4, and how many masked blocks wait in the group beside it. Every block of every
 // string goes through AES4 under the same keys, so that they wait for each other, whichever string they are of.
-#[derive(Drop)]
+#[derive(Clone, Copy)]
 pub struct Sum {
     total: [u8; 16],
     waiting: usize,

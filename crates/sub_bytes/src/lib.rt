@@ -9,7 +9,7 @@ ghost use Rattle.sub_bytes.specs.Planes.{crossed, joined_bit, plane_bytes, plane
 
 use columns::Columns;
 
-#[derive(Drop)]
+#[derive(Clone, Copy)]
 struct Pair {
     a: u32,
     b: u32,

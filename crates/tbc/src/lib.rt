@@ -14,7 +14,7 @@ use pairs::Pair;
 
 // What loops take of a key from block to block: I, J and L as crossed words, by value, which AES takes for its keys. The multiples of J are
 // lent beside it.
-#[derive(Drop)]
+#[derive(Clone, Copy)]
 pub struct Base {
     i: Columns,
     j: Columns,

@@ -14,14 +14,14 @@ ghost use Rattle.wide.specs.Ends.{sx_of, sy_of, cx_of, cy_of};
 ghost use Rattle.wide.specs.Uv.{with_uv, u_masked, v_masked};
 
 // Whether a string is enciphered or deciphered.
-#[derive(Drop)]
+#[derive(Clone, Copy)]
 pub enum Way {
     Encipher,
     Decipher,
 }
 
 // (0, x), (-1, x), (0, y) and (-1, y) of lines 230 and 239.
-#[derive(Drop)]
+#[derive(Clone, Copy)]
 struct EndPairs {
     x: pairs::Pair,
     xx: pairs::Pair,
@@ -49,7 +49,7 @@ fn pairs_of(way: Way) -> EndPairs
 }
 
 // S_x, S_y and S.
-#[derive(Drop)]
+#[derive(Clone, Copy)]
 struct Sums {
     sx: [u8; 16],
     sy: [u8; 16],

@@ -5,29 +5,29 @@ use Rattle.laws.proofs.BitStrings.{number_64}
 use Rattle.block.proofs.number.Statement.{statement}
 use Rattle.block.proofs.number.Tie as tie
 
-cast-t4 : tie.Need-overflow-cast-t4
-cast-t4 c = search rules
+overflow_cast-result : tie.Need-overflow_cast-result
+overflow_cast-result c = search rules
 
-cast-t7 : tie.Need-overflow-cast-t7
-cast-t7 c = search rules
+overflow_cast-result-2 : tie.Need-overflow_cast-result-2
+overflow_cast-result-2 c = search rules
 
-cast-t10 : tie.Need-overflow-cast-t10
-cast-t10 c = search rules
+overflow_cast-result-3 : tie.Need-overflow_cast-result-3
+overflow_cast-result-3 c = search rules
 
-cast-t13 : tie.Need-overflow-cast-t13
-cast-t13 c = search rules
+overflow_cast-result-4 : tie.Need-overflow_cast-result-4
+overflow_cast-result-4 c = search rules
 
-cast-t16 : tie.Need-overflow-cast-t16
-cast-t16 c = search rules
+overflow_cast-result-5 : tie.Need-overflow_cast-result-5
+overflow_cast-result-5 c = search rules
 
-cast-t19 : tie.Need-overflow-cast-t19
-cast-t19 c = search rules
+overflow_cast-result-6 : tie.Need-overflow_cast-result-6
+overflow_cast-result-6 c = search rules
 
-cast-t22 : tie.Need-overflow-cast-t22
-cast-t22 c = search rules
+overflow_cast-result-7 : tie.Need-overflow_cast-result-7
+overflow_cast-result-7 c = search rules
 
-cast-t24 : tie.Need-overflow-cast-t24
-cast-t24 c = search rules
+overflow_cast-result-8 : tie.Need-overflow_cast-result-8
+overflow_cast-result-8 c = search rules
 
 returns : tie.Need-returns
 returns c = sym (number_64 c.args.n c.ranges.n.fits)
@@ -35,4 +35,13 @@ returns c = sym (number_64 c.args.n c.ranges.n.fits)
 pub number_spec : {M : Type 1} → statement M
 number_spec =
     tie.close
-    (tie.spec cast-t4 cast-t7 cast-t10 cast-t13 cast-t16 cast-t19 cast-t22 cast-t24 returns)
+    (tie.spec
+    overflow_cast-result
+    overflow_cast-result-2
+    overflow_cast-result-3
+    overflow_cast-result-4
+    overflow_cast-result-5
+    overflow_cast-result-6
+    overflow_cast-result-7
+    overflow_cast-result-8
+    returns)

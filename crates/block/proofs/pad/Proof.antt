@@ -12,41 +12,41 @@ use Rattle.laws.proofs.Padding.{mark_over}
 use Rattle.block.proofs.pad.Statement.{statement}
 use Rattle.block.proofs.pad.Tie as tie
 
-abbrev invariant-loop : tie.invariant-loop
-invariant-loop s r₀ i₀ r i = (i ≤ length s) × (r ≡ take i s ++ drop i (replicate 16 0))
+abbrev invariant-loop-i : tie.invariant-loop-i
+invariant-loop-i s r₀ i₀ r i = (i ≤ length s) × (r ≡ take i s ++ drop i (replicate 16 0))
 
-abbrev decreases-loop : tie.decreases-loop
-decreases-loop s r₀ i₀ r i = length s - i
+abbrev decreases-loop-i : tie.decreases-loop-i
+decreases-loop-i s r₀ i₀ r i = length s - i
 
-loop-holds : tie.Need-loop-init invariant-loop decreases-loop
-loop-holds c = (omega arith, refl)
+loop-i-init : tie.Need-loop-i-init invariant-loop-i decreases-loop-i
+loop-i-init c = (omega arith, refl)
 
-shared-slice-read-r : tie.Need-shared-slice-read-r invariant-loop decreases-loop
-shared-slice-read-r c = search rules
+bounds-s-i : tie.Need-bounds-s-i invariant-loop-i decreases-loop-i
+bounds-s-i c = search rules
 
-array-write-r : tie.Need-array-write-r invariant-loop decreases-loop
-array-write-r c = search rules
+bounds-r-i : tie.Need-bounds-r-i invariant-loop-i decreases-loop-i
+bounds-r-i c = search rules
 
-add-i : tie.Need-overflow-add-i invariant-loop decreases-loop
-add-i c = search rules
+overflow_add-i : tie.Need-overflow_add-i invariant-loop-i decreases-loop-i
+overflow_add-i c = search rules
 
-loop-less : tie.Need-loop-smaller invariant-loop decreases-loop
-loop-less c = search rules
+loop-i-smaller : tie.Need-loop-i-smaller invariant-loop-i decreases-loop-i
+loop-i-smaller c = search rules
 
-loop-again : tie.Need-loop-preserved invariant-loop decreases-loop
-loop-again c =
-    let l = c.before.before.loop in
-    let s = c.before.before.before.args.s.now in
+loop-i-preserved : tie.Need-loop-i-preserved invariant-loop-i decreases-loop-i
+loop-i-preserved c =
+    let l = c.loop-i in
+    let s = c.args.s.now in
     (omega arith, over_more (replicate 16 0) s l.r l.i _ (omega arith) (omega arith) refl l.invariant.1)
 
-array-write-r-2 : tie.Need-array-write-r-2 invariant-loop decreases-loop
-array-write-r-2 c = search rules
+bounds-r-i-2 : tie.Need-bounds-r-i-2 invariant-loop-i decreases-loop-i
+bounds-r-i-2 c = search rules
 
-returns : tie.Need-returns invariant-loop decreases-loop
+returns : tie.Need-returns invariant-loop-i decreases-loop-i
 unfolding pad10*
 returns c =
-    let l = c.before.loop in
-    let s = c.before.before.args.s.now in
+    let l = c.loop-i in
+    let s = c.args.s.now in
     let done : l.i ≡ length s = omega arith in
     let all = l.invariant.1 ∙ ap (λ (k : ℕ). take k s ++ drop k (replicate 16 0)) done ∙ ap (λ (t : List ℕ). t ++ drop (length s) (replicate 16 0)) (take-length s) in
     ap (λ (k : ℕ). set l.r k 128) done ∙ mark_over 16 128 s l.r (omega arith) all
@@ -55,13 +55,13 @@ pub pad_spec : {M : Type 1} → statement M
 pad_spec =
     tie.close
     (tie.spec
-    invariant-loop
-    decreases-loop
-    loop-holds
-    shared-slice-read-r
-    array-write-r
-    add-i
-    loop-less
-    loop-again
-    array-write-r-2
+    invariant-loop-i
+    decreases-loop-i
+    loop-i-init
+    bounds-s-i
+    bounds-r-i
+    overflow_add-i
+    loop-i-smaller
+    loop-i-preserved
+    bounds-r-i-2
     returns)

@@ -10,49 +10,49 @@ use Rattle.laws.proofs.Strings.{⊕_length, get_or_⊕}
 use Rattle.block.proofs.xor.Statement.{statement}
 use Rattle.block.proofs.xor.Tie as tie
 
-abbrev invariant-loop : tie.invariant-loop
-invariant-loop a b r₀ i₀ r i = (i ≤ 16) × Front (a ⊕ b) r i
+abbrev invariant-loop-i : tie.invariant-loop-i
+invariant-loop-i a b r₀ i₀ r i = (i ≤ 16) × Front (a ⊕ b) r i
 
-abbrev decreases-loop : tie.decreases-loop
-decreases-loop a b r₀ i₀ r i = 16 - i
+abbrev decreases-loop-i : tie.decreases-loop-i
+decreases-loop-i a b r₀ i₀ r i = 16 - i
 
-loop-holds : tie.Need-loop-init invariant-loop decreases-loop
-loop-holds c =
-    let a = c.args.t1 in
-    let b = c.args.t2 in
+loop-i-init : tie.Need-loop-i-init invariant-loop-i decreases-loop-i
+loop-i-init c =
+    let a = c.args.a in
+    let b = c.args.b in
     let la : length a ≡ 16 = search rules in
     let lb : length b ≡ 16 = search rules in
     (omega arith, record { long = sym (⊕_length a b (omega arith) ∙ la); same = refl })
 
-array-read-r : tie.Need-array-read-r invariant-loop decreases-loop
-array-read-r c = search rules
+bounds-a-i : tie.Need-bounds-a-i invariant-loop-i decreases-loop-i
+bounds-a-i c = search rules
 
-array-read-r-2 : tie.Need-array-read-r-2 invariant-loop decreases-loop
-array-read-r-2 c = search rules
+bounds-b-i : tie.Need-bounds-b-i invariant-loop-i decreases-loop-i
+bounds-b-i c = search rules
 
-array-write-r : tie.Need-array-write-r invariant-loop decreases-loop
-array-write-r c = search rules
+bounds-r-i : tie.Need-bounds-r-i invariant-loop-i decreases-loop-i
+bounds-r-i c = search rules
 
-add-i : tie.Need-overflow-add-i invariant-loop decreases-loop
-add-i c = search rules
+overflow_add-i : tie.Need-overflow_add-i invariant-loop-i decreases-loop-i
+overflow_add-i c = search rules
 
-loop-less : tie.Need-loop-smaller invariant-loop decreases-loop
-loop-less c = search rules
+loop-i-smaller : tie.Need-loop-i-smaller invariant-loop-i decreases-loop-i
+loop-i-smaller c = search rules
 
-loop-again : tie.Need-loop-preserved invariant-loop decreases-loop
-loop-again c =
-    let l = c.before.loop in
-    let a = c.before.before.args.t1 in
-    let b = c.before.before.args.t2 in
+loop-i-preserved : tie.Need-loop-i-preserved invariant-loop-i decreases-loop-i
+loop-i-preserved c =
+    let l = c.loop-i in
+    let a = c.args.a in
+    let b = c.args.b in
     let la : length a ≡ 16 = search rules in
     let lb : length b ≡ 16 = search rules in
     (omega arith, front_more _ l.invariant.1 (omega (arith, ⊕_length a b (omega arith))) (sym (get_or_⊕ a b l.i (omega arith) (omega arith))))
 
-returns : tie.Need-returns invariant-loop decreases-loop
+returns : tie.Need-returns invariant-loop-i decreases-loop-i
 returns c =
-    let l = c.before.loop in
-    let a = c.before.before.args.t1 in
-    let b = c.before.before.args.t2 in
+    let l = c.loop-i in
+    let a = c.args.a in
+    let b = c.args.b in
     let la : length a ≡ 16 = search rules in
     let lb : length b ≡ 16 = search rules in
     front_all l.invariant.1 (⊕_length a b (omega arith) ∙ omega arith)
@@ -61,13 +61,13 @@ pub xor_spec : {M : Type 1} → statement M
 xor_spec =
     tie.close
     (tie.spec
-    invariant-loop
-    decreases-loop
-    loop-holds
-    array-read-r
-    array-read-r-2
-    array-write-r
-    add-i
-    loop-less
-    loop-again
+    invariant-loop-i
+    decreases-loop-i
+    loop-i-init
+    bounds-a-i
+    bounds-b-i
+    bounds-r-i
+    overflow_add-i
+    loop-i-smaller
+    loop-i-preserved
     returns)

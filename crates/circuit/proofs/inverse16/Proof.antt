@@ -11,4 +11,9 @@ returns c = refl
 pub inverse16_spec : {M : Type 1} → statement M
 inverse16_spec =
     tie.close
-    (tie.spec (λ c. search rules) (λ c. search rules) (λ c. search rules) (λ c. search rules) returns)
+    (tie.spec
+    (λ c. search rules)
+    (λ c. search rules)
+    (λ c. search rules)
+    (λ c. search rules)
+    returns)

@@ -24,13 +24,18 @@ placed a b c d p q r s =
 
 returns : tie.Need-returns
 returns c =
-    let d = c.as-number4.ensures in
-    let e = c.before.as-number3.ensures in
-    let f = c.before.before.as-number2.ensures in
-    let g = c.before.before.before.as_number.ensures in
+    let d = c.as_number-4.ensures in
+    let e = c.as_number-3.ensures in
+    let f = c.as_number-2.ensures in
+    let g = c.as_number.ensures in
     placed _ _ _ _ g.1 f.1 e.1 d.1 ∙ (λ i. column (g.0 i) (f.0 i) (e.0 i) (d.0 i))
 
 pub column_spec : {M : Type 1} → statement M
 column_spec =
     tie.close
-    (tie.spec (λ c κs. search rules) (λ c κs. search rules) (λ c κs. search rules) (λ c κs. search rules) returns)
+    (tie.spec
+    (λ c κs. search rules)
+    (λ c κs. search rules)
+    (λ c κs. search rules)
+    (λ c κs. search rules)
+    returns)

@@ -10,14 +10,14 @@ use Rattle.columns.proofs.double.Statement.{statement}
 use Rattle.columns.proofs.double.Tie as tie
 
 -- x is four numbers of 32 bits
-four : (c : tie.Start) → Digits 32 4 c.args.t1
-four c = array_digits w32 4 _ _ c.well-formed.0
+four : (c : tie.Start) → Digits 32 4 c.args.x
+four c = array_digits w32 4 _ _ c.well_formed.0
 
-mul-t26 : tie.Need-overflow-mul-t26
-mul-t26 c = record { fits = omega (arith, column_at_lem (four c) 0) }
+overflow_mul-result : tie.Need-overflow_mul-result
+overflow_mul-result c = record { fits = omega (arith, column_at_lem (four c) 0) }
 
 returns : tie.Need-returns
-returns c = doubled c.args.t1 (four c)
+returns c = doubled c.args.x (four c)
 
 pub double_spec : {M : Type 1} → statement M
 double_spec =
@@ -27,5 +27,5 @@ double_spec =
     (λ c. search rules)
     (λ c. search rules)
     (λ c. search rules)
-    mul-t26
+    overflow_mul-result
     returns)

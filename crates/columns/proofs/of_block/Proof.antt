@@ -7,10 +7,10 @@ use Rattle.columns.proofs.of_block.Tie as tie
 returns : tie.Need-returns
 returns c =
     λ i.
-    c.before.before.before.column.ensures i
-    ∷ c.before.before.column2.ensures i
-    ∷ c.before.column3.ensures i
-    ∷ c.column4.ensures i
+    c.column-a.ensures i
+    ∷ c.column-b.ensures i
+    ∷ c.column-c.ensures i
+    ∷ c.column-d.ensures i
     ∷ []
 
 pub of_block_spec : {M : Type 1} → statement M

@@ -28,11 +28,11 @@ module _ (v w : ℕ) (e : v ≡ column (row3 w) (row2 w) (row1 w) (row0 w)) wher
 
 returns : tie.Need-returns
 returns c =
-    let s = c.before.before.before.before.args.t1 in
-    let a = c.before.before.before.swapped.ensures in
-    let b = c.before.before.swapped2.ensures in
-    let d = c.before.swapped3.ensures in
-    let e = c.swapped4.ensures in
+    let s = c.args.s in
+    let a = c.swapped-a.ensures in
+    let b = c.swapped-b.ensures in
+    let d = c.swapped-c.ensures in
+    let e = c.swapped-d.ensures in
     λ i.
     was0 _ (get_or s 0 0) a i ∷ was1 _ (get_or s 0 0) a i ∷ was2 _ (get_or s 0 0) a i ∷ was3 _ (get_or s 0 0) a i
     ∷ was0 _ (get_or s 1 0) b i ∷ was1 _ (get_or s 1 0) b i ∷ was2 _ (get_or s 1 0) b i ∷ was3 _ (get_or s 1 0) b i

@@ -8,7 +8,7 @@ use Rattle.columns.proofs.xor.Tie as tie
 
 returns : tie.Need-returns
 returns c =
-    columns_sum c.args.t1 c.args.t2 (array_digits w32 4 _ _ c.well-formed.0) (array_digits w32 4 _ _ c.well-formed.1.0)
+    columns_sum c.args.a c.args.b (array_digits w32 4 _ _ c.well_formed.0) (array_digits w32 4 _ _ c.well_formed.1.0)
 
 pub xor_spec : {M : Type 1} → statement M
 xor_spec =

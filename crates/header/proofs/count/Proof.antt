@@ -32,34 +32,40 @@ unfolding count_of
 right [] n e p q r = absurd (omega arith)
 right (x ∷ h) n e p q r = simp (← e, le-leb 1 n q, le-leb n 16 r)
 
-abbrev entered : tie.After-as-number → tie.Start
+abbrev entered : tie.After-as_number-n → tie.Start
 entered c = c.before.before.before.before
 
+returns-then-h-lt1 : tie.Need-returns-then-h-lt1
+returns-then-h-lt1 c = (no_byte c.args.h.now c.if-h-lt1.true, tt)
+
+bounds-h-0 : tie.Need-bounds-h-0
+bounds-h-0 c = search rules
+
+as_number-n-requires : tie.Need-as_number-n-requires
+as_number-n-requires c κs = search rules
+
+returns-then-n-lt1 : tie.Need-returns-then-n-lt1
+returns-then-n-lt1 c =
+    let n = c.as_number-n in
+    (zero_strings (entered c.before).args.h.now n.result n.ensures.0 (omega arith) c.if-n-lt1.true, tt)
+
+returns-then-n-gt16 : tie.Need-returns-then-n-gt16
+returns-then-n-gt16 c =
+    let n = c.as_number-n in
+    (too_many (entered c.before.before).args.h.now n.result n.ensures.0 (omega arith) c.if-n-gt16.true, tt)
+
 returns : tie.Need-returns
-returns c = (no_byte c.before.before.args.h.now c.if1.true, tt)
-
-shared-slice-read-as-number : tie.Need-shared-slice-read-as-number
-shared-slice-read-as-number c = search rules
-
-as-number-requires : tie.Need-as-number-requires
-as-number-requires c κs = search rules
-
-returns-2 : tie.Need-returns-2
-returns-2 c =
-    let n = c.before.as_number in
-    (zero_strings (entered c.before).args.h.now n.result n.ensures.0 (omega arith) c.if2.true, tt)
-
-returns-3 : tie.Need-returns-3
-returns-3 c =
-    let n = c.before.before.as_number in
-    (too_many (entered c.before.before).args.h.now n.result n.ensures.0 (omega arith) c.if3.true, tt)
-
-returns-4 : tie.Need-returns-4
-returns-4 c =
-    let n = c.before.before.as_number in
-    (right (entered c.before.before).args.h.now n.result n.ensures.0 (omega arith) c.before.if2.false c.if3.false, (c.if3.false, omega arith))
+returns c =
+    let n = c.as_number-n in
+    (right (entered c.before.before).args.h.now n.result n.ensures.0 (omega arith) c.if-n-lt1.false c.if-n-gt16.false, (c.if-n-gt16.false, omega arith))
 
 pub count_spec : {M : Type 1} → statement M
 count_spec =
     tie.close
-    (tie.spec returns shared-slice-read-as-number as-number-requires returns-2 returns-3 returns-4)
+    (tie.spec
+    returns-then-h-lt1
+    bounds-h-0
+    as_number-n-requires
+    returns-then-n-lt1
+    returns-then-n-gt16
+    returns)

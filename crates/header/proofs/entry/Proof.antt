@@ -32,13 +32,13 @@ module _ (h : Bytes) (at size : ℕ) (e : size ≡ size_at h at) (two : at + 2 �
 
 -- ---- What is known where both bytes are read
 
-abbrev entered : tie.After-as-number → tie.Start
+abbrev entered : tie.After-as_number-high → tie.Start
 entered c = c.before.before.before.before.before
 
-abbrev high : tie.After-as-number2 → tie.After-as-number
+abbrev high : tie.After-as_number-low → tie.After-as_number-high
 high c = c.before.before
 
-module _ (c : tie.After-as-number2) where
+module _ (c : tie.After-as_number-low) where
   abbrev h : Bytes
   h = (entered (high c)).args.h.now
 
@@ -46,82 +46,82 @@ module _ (c : tie.After-as-number2) where
   at = (entered (high c)).args.at
 
   abbrev size : ℕ
-  size = (high c).as_number.result * 256 + c.as-number2.result
+  size = (high c).as_number-high.result * 256 + c.as_number-low.result
 
   sized : size ≡ size_at h at
-  sized = λ i. (high c).as_number.ensures.0 i * 256 + c.as-number2.ensures.0 i
+  sized = λ i. (high c).as_number-high.ensures.0 i * 256 + c.as_number-low.ensures.0 i
+
+returns-then-h-at : tie.Need-returns-then-h-at
+returns-then-h-at c = (few c.args.h.now c.args.at (omega arith), tt)
+
+overflow_sub-h : tie.Need-overflow_sub-h
+overflow_sub-h c = search rules
+
+returns-then-h-at-lt2 : tie.Need-returns-then-h-at-lt2
+returns-then-h-at-lt2 c = let a = c.args in (few a.h.now a.at (omega arith), tt)
+
+bounds-h-at : tie.Need-bounds-h-at
+bounds-h-at c = search rules
+
+as_number-high-requires : tie.Need-as_number-high-requires
+as_number-high-requires c κs = search rules
+
+overflow_add-at : tie.Need-overflow_add-at
+overflow_add-at c = search rules
+
+bounds-h-at-2 : tie.Need-bounds-h-at-2
+bounds-h-at-2 c = search rules
+
+as_number-low-requires : tie.Need-as_number-low-requires
+as_number-low-requires c κs = search rules
+
+overflow_mul-size : tie.Need-overflow_mul-size
+overflow_mul-size c = search rules
+
+overflow_add-size : tie.Need-overflow_add-size
+overflow_add-size c = search rules
+
+returns-then-size-gt1024 : tie.Need-returns-then-size-gt1024
+returns-then-size-gt1024 c =
+    let l = c.before in
+    (long (h l) (at l) (size l) (sized l) (omega arith) c.if-size-gt1024.true, tt)
+
+overflow_add-start : tie.Need-overflow_add-start
+overflow_add-start c = search rules
+
+overflow_sub-h-2 : tie.Need-overflow_sub-h-2
+overflow_sub-h-2 c = search rules
+
+returns-then-h-start : tie.Need-returns-then-h-start
+returns-then-h-start c =
+    let l = c.before.before in
+    (past (h l) (at l) (size l) (sized l) (omega arith) c.if-size-gt1024.false (omega arith), tt)
+
+overflow_add-end : tie.Need-overflow_add-end
+overflow_add-end c = search rules
 
 returns : tie.Need-returns
-returns c = (few c.before.before.args.h.now c.before.before.args.at (omega arith), tt)
-
-sub-if2 : tie.Need-overflow-sub-if2
-sub-if2 c = search rules
-
-returns-2 : tie.Need-returns-2
-returns-2 c = let a = c.before.before.before.args in (few a.h.now a.at (omega arith), tt)
-
-shared-slice-read-as-number : tie.Need-shared-slice-read-as-number
-shared-slice-read-as-number c = search rules
-
-as-number-requires : tie.Need-as-number-requires
-as-number-requires c κs = search rules
-
-add-as-number : tie.Need-overflow-add-as-number
-add-as-number c = search rules
-
-shared-slice-read-as-number-2 : tie.Need-shared-slice-read-as-number-2
-shared-slice-read-as-number-2 c = search rules
-
-as-number-requires-2 : tie.Need-as-number-requires-2
-as-number-requires-2 c κs = search rules
-
-mul-size : tie.Need-overflow-mul-size
-mul-size c = search rules
-
-add-size : tie.Need-overflow-add-size
-add-size c = search rules
-
-returns-3 : tie.Need-returns-3
-returns-3 c =
-    let l = c.before in
-    (long (h l) (at l) (size l) (sized l) (omega arith) c.if3.true, tt)
-
-add_start : tie.Need-overflow-add-start
-add_start c = search rules
-
-sub-if4 : tie.Need-overflow-sub-if4
-sub-if4 c = search rules
-
-returns-4 : tie.Need-returns-4
-returns-4 c =
+returns c =
     let l = c.before.before in
-    (past (h l) (at l) (size l) (sized l) (omega arith) c.before.if3.false (omega arith), tt)
-
-add-end : tie.Need-overflow-add-end
-add-end c = search rules
-
-returns-5 : tie.Need-returns-5
-returns-5 c =
-    let l = c.before.before in
-    (whole (h l) (at l) (size l) (sized l) (omega arith) c.before.if3.false (omega arith), (omega arith, omega arith, omega arith))
+    (whole (h l) (at l) (size l) (sized l) (omega arith) c.if-size-gt1024.false (omega arith), (omega arith, omega arith, omega arith))
 
 pub entry_spec : {M : Type 1} → statement M
 entry_spec =
     tie.close
     (tie.spec
-    returns
-    sub-if2
-    returns-2
-    shared-slice-read-as-number
-    as-number-requires
-    add-as-number
-    shared-slice-read-as-number-2
-    as-number-requires-2
-    mul-size
-    add-size
-    returns-3
-    add_start
-    sub-if4
-    returns-4
-    add-end
-    returns-5)
+    returns-then-h-at
+    overflow_sub-h
+    returns-then-h-at-lt2
+    bounds-h-at
+    as_number-high-requires
+    overflow_add-at
+    bounds-h-at-2
+    as_number-low-requires
+    overflow_mul-size
+    overflow_add-size
+    returns-then-size-gt1024
+    overflow_add-start
+    overflow_sub-h-2
+    returns-then-h-start
+    overflow_add-end
+    returns)

@@ -66,122 +66,122 @@ module _ (h : Bytes) (n at left : ℕ) (none_left : left ≤ 0) where
 
 -- ---- The places
 
-abbrev invariant-loop : tie.invariant-loop
-invariant-loop h n at₀ left₀ at left = (at ≤ length h) × (left ≤ n) × (read_as (reading h) ≡ rest h n at left)
+abbrev invariant-loop-left : tie.invariant-loop-left
+invariant-loop-left h n at₀ left₀ at left = (at ≤ length h) × (left ≤ n) × (read_as (reading h) ≡ rest h n at left)
 
-abbrev decreases-loop : tie.decreases-loop
-decreases-loop h n at₀ left₀ at left = left
+abbrev decreases-loop-left : tie.decreases-loop-left
+decreases-loop-left h n at₀ left₀ at left = left
 
-abbrev start : tie.After-count invariant-loop decreases-loop → tie.Start invariant-loop decreases-loop
+abbrev start : tie.After-count invariant-loop-left decreases-loop-left → tie.Start invariant-loop-left decreases-loop-left
 start c = c.before.before
 
-abbrev counted : tie.At-loop invariant-loop decreases-loop → tie.After-n invariant-loop decreases-loop
-counted c = c.before.before
+abbrev counted : tie.At-loop-left invariant-loop-left decreases-loop-left → tie.In-Strings invariant-loop-left decreases-loop-left
+counted c = c.before
 
-module _ (c : tie.After-n invariant-loop decreases-loop) where
+module _ (c : tie.In-Strings invariant-loop-left decreases-loop-left) where
   abbrev h : Bytes
-  h = (start c.before.before).args.h.now
+  h = (start c.before).args.h.now
 
   abbrev n : ℕ
-  n = c.n.given.0.0
+  n = c.in-Strings.n
 
   is_count : Strings n ≡ count_of h
-  is_count = rw c.n.given.1 at c.before.before.count.ensures.0
+  is_count = rw c.in-Strings.is at c.count.ensures.0
 
   is_few : Few (Strings n) h
-  is_few = rw c.n.given.1 at c.before.before.count.ensures.1
+  is_few = rw c.in-Strings.is at c.count.ensures.1
 
-count-requires : tie.Need-count-requires invariant-loop decreases-loop
+count-requires : tie.Need-count-requires invariant-loop-left decreases-loop-left
 count-requires c κs = search rules
 
-enum-known-n : tie.Need-enum-known-n invariant-loop decreases-loop
-enum-known-n c = search rules
+enum_known-n : tie.Need-enum_known-n invariant-loop-left decreases-loop-left
+enum_known-n c = search rules
 
-enum_told : tie.Need-enum-told invariant-loop decreases-loop
-enum_told c = search rules
+enum_told-1 : tie.Need-enum_told-1 invariant-loop-left decreases-loop-left
+enum_told-1 c = search rules
 
-returns : tie.Need-returns invariant-loop decreases-loop
-returns c =
-    let r = c.before.before in
-    ap read_as (sym (count_bad (start r).args.h.now _ (rw c.enum_told.given.1 at r.count.ensures.0)))
-
-loop-holds : tie.Need-loop-init invariant-loop decreases-loop
-loop-holds c =
+returns-in_default : tie.Need-returns-in_default invariant-loop-left decreases-loop-left
+returns-in_default c =
     let r = c.before in
+    ap read_as (sym (count_bad (start r).args.h.now _ (rw c.in_default.is at r.count.ensures.0)))
+
+loop-left-init : tie.Need-loop-left-init invariant-loop-left decreases-loop-left
+loop-left-init c =
+    let r = c in
     ((is_few r).1, omega arith, begun (h r) (n r) (is_count r))
 
-entry-requires : tie.Need-entry-requires invariant-loop decreases-loop
+entry-requires : tie.Need-entry-requires invariant-loop-left decreases-loop-left
 entry-requires c κs = search rules
 
-enum-known-end : tie.Need-enum-known-end invariant-loop decreases-loop
-enum-known-end c = search rules
+enum_known-end : tie.Need-enum_known-end invariant-loop-left decreases-loop-left
+enum_known-end c = search rules
 
-enum-told-2 : tie.Need-enum-told-2 invariant-loop decreases-loop
-enum-told-2 c = search rules
+enum_told-in_default-entry : tie.Need-enum_told-in_default-entry invariant-loop-left decreases-loop-left
+enum_told-in_default-entry c = search rules
 
-sub-k : tie.Need-overflow-sub-k invariant-loop decreases-loop
-sub-k c = search rules
+overflow_sub-k : tie.Need-overflow_sub-k invariant-loop-left decreases-loop-left
+overflow_sub-k c = search rules
 
-add-k : tie.Need-overflow-add-k invariant-loop decreases-loop
-add-k c = search rules
+overflow_add-k : tie.Need-overflow_add-k invariant-loop-left decreases-loop-left
+overflow_add-k c = search rules
 
-returns-2 : tie.Need-returns-2 invariant-loop decreases-loop
-returns-2 c =
-    let p = c.before.before in
+returns-in_default-entry : tie.Need-returns-in_default-entry invariant-loop-left decreases-loop-left
+returns-in_default-entry c =
+    let p = c.before in
     let at_loop = p.before.before in
     let r = counted at_loop in
-    let l = at_loop.loop in
-    sym (l.invariant.2 ∙ stop (h r) (n r) l.at l.left (omega arith) (omega arith) (rw c.enum-told2.given.1 at p.entry.ensures.0))
+    let l = at_loop.loop-left in
+    sym (l.invariant.2 ∙ stop (h r) (n r) l.at l.left (omega arith) (omega arith) (rw c.in_default-entry.is at p.entry.ensures.0))
 
-sub-left : tie.Need-overflow-sub-left invariant-loop decreases-loop
-sub-left c = search rules
+overflow_sub-left : tie.Need-overflow_sub-left invariant-loop-left decreases-loop-left
+overflow_sub-left c = search rules
 
-loop-less : tie.Need-loop-smaller invariant-loop decreases-loop
-loop-less c = search rules
+loop-left-smaller : tie.Need-loop-left-smaller invariant-loop-left decreases-loop-left
+loop-left-smaller c = search rules
 
-loop-again : tie.Need-loop-preserved invariant-loop decreases-loop
-loop-again c =
-    let place = c.before.end.given in
-    let p = c.before.before.before in
+loop-left-preserved : tie.Need-loop-left-preserved invariant-loop-left decreases-loop-left
+loop-left-preserved c =
+    let place = c.in-At in
+    let p = c.before in
     let at_loop = p.before.before in
     let r = counted at_loop in
-    let l = at_loop.loop in
-    let s = place.0.0 in
-    let e = place.0.1.0 in
-    let inside : Within (At s e) (h r) = rw place.1 at p.entry.ensures.1 in
-    (omega arith, omega arith, l.invariant.2 ∙ turn (h r) (n r) l.at l.left (omega arith) (omega arith) s e (rw place.1 at p.entry.ensures.0))
+    let l = at_loop.loop-left in
+    let s = place.field-0 in
+    let e = place.end in
+    let inside : Within (At s e) (h r) = rw place.is at p.entry.ensures.1 in
+    (omega arith, omega arith, l.invariant.2 ∙ turn (h r) (n r) l.at l.left (omega arith) (omega arith) s e (rw place.is at p.entry.ensures.0))
 
-returns-3 : tie.Need-returns-3 invariant-loop decreases-loop
-returns-3 c =
+returns-then-at-h : tie.Need-returns-then-at-h invariant-loop-left decreases-loop-left
+returns-then-at-h c =
     let r = counted c.before.before in
-    let l = c.before.before.loop in
+    let l = c.loop-left in
     sym (l.invariant.2 ∙ over (h r) (n r) l.at l.left (omega arith) (omega arith))
 
-returns-4 : tie.Need-returns-4 invariant-loop decreases-loop
-returns-4 c =
+returns : tie.Need-returns invariant-loop-left decreases-loop-left
+returns c =
     let r = counted c.before.before in
-    let l = c.before.before.loop in
-    sym (l.invariant.2 ∙ good (h r) (n r) l.at l.left (omega arith) c.if1.false)
+    let l = c.loop-left in
+    sym (l.invariant.2 ∙ good (h r) (n r) l.at l.left (omega arith) c.if-at-h.false)
 
 pub read_spec : {M : Type 1} → statement M
 read_spec =
     tie.close
     (tie.spec
-    invariant-loop
-    decreases-loop
+    invariant-loop-left
+    decreases-loop-left
     count-requires
-    enum-known-n
-    enum_told
-    returns
-    loop-holds
+    enum_known-n
+    enum_told-1
+    returns-in_default
+    loop-left-init
     entry-requires
-    enum-known-end
-    enum-told-2
-    sub-k
-    add-k
-    returns-2
-    sub-left
-    loop-less
-    loop-again
-    returns-3
-    returns-4)
+    enum_known-end
+    enum_told-in_default-entry
+    overflow_sub-k
+    overflow_add-k
+    returns-in_default-entry
+    overflow_sub-left
+    loop-left-smaller
+    loop-left-preserved
+    returns-then-at-h
+    returns)

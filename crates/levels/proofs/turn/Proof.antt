@@ -13,7 +13,11 @@ returns : tie.Need-returns
 returns c =
     let f : tie.After-far = c.before.before in
     let n : tie.After-near = before f in
-    f.far.ensures ∙ ap (far 32 4) n.near.ensures ∙ five_levels n.before.before.before.args.w.now
+    f.far.ensures ∙ ap (far 32 4) n.near.ensures ∙ five_levels n.args.w.now
 
 pub turn_spec : {M : Type 1} → statement M
-turn_spec = tie.close (tie.spec (λ c κs. search rules) (λ c κs. search rules) (λ c. search rules) returns)
+turn_spec = tie.close (tie.spec
+    (λ c κs. search rules)
+    (λ c κs. search rules)
+    (λ c. search rules)
+    returns)

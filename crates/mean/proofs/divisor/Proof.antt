@@ -8,27 +8,34 @@ use Rattle.laws.proofs.Means.{gcd_step, gcd_end}
 use Rattle.mean.proofs.divisor.Statement.{statement}
 use Rattle.mean.proofs.divisor.Tie as tie
 
-abbrev invariant-loop : tie.invariant-loop
-invariant-loop a b x₀ y₀ x y = gcd a b ≡ gcd x y
+abbrev invariant-loop-y : tie.invariant-loop-y
+invariant-loop-y a b x₀ y₀ x y = gcd a b ≡ gcd x y
 
-abbrev decreases-loop : tie.decreases-loop
-decreases-loop a b x₀ y₀ x y = y
+abbrev decreases-loop-y : tie.decreases-loop-y
+decreases-loop-y a b x₀ y₀ x y = y
 
-loop-holds : tie.Need-loop-init invariant-loop decreases-loop
-loop-holds c = refl
+loop-y-init : tie.Need-loop-y-init invariant-loop-y decreases-loop-y
+loop-y-init c = refl
 
-rem-rest : tie.Need-nonzero-rem-rest invariant-loop decreases-loop
-rem-rest c = search rules
+nonzero_rem-rest : tie.Need-nonzero_rem-rest invariant-loop-y decreases-loop-y
+nonzero_rem-rest c = search rules
 
-loop-less : tie.Need-loop-smaller invariant-loop decreases-loop
-loop-less c = let l = c.before.loop in mod-lt l.x {m = l.y} (omega arith)
+loop-y-smaller : tie.Need-loop-y-smaller invariant-loop-y decreases-loop-y
+loop-y-smaller c = let l = c.loop-y in mod-lt l.x {m = l.y} (omega arith)
 
-loop-again : tie.Need-loop-preserved invariant-loop decreases-loop
-loop-again c = let l = c.before.loop in l.invariant ∙ gcd_step l.x l.y (omega arith)
+loop-y-preserved : tie.Need-loop-y-preserved invariant-loop-y decreases-loop-y
+loop-y-preserved c = let l = c.loop-y in l.invariant ∙ gcd_step l.x l.y (omega arith)
 
-returns : tie.Need-returns invariant-loop decreases-loop
-returns c = let l = c.before.loop in sym (l.invariant ∙ gcd_end l.x l.y (omega arith))
+returns : tie.Need-returns invariant-loop-y decreases-loop-y
+returns c = let l = c.loop-y in sym (l.invariant ∙ gcd_end l.x l.y (omega arith))
 
 pub divisor_spec : {M : Type 1} → statement M
 divisor_spec =
-    tie.close (tie.spec invariant-loop decreases-loop loop-holds rem-rest loop-less loop-again returns)
+    tie.close (tie.spec
+    invariant-loop-y
+    decreases-loop-y
+    loop-y-init
+    nonzero_rem-rest
+    loop-y-smaller
+    loop-y-preserved
+    returns)

@@ -8,26 +8,26 @@ use borrow.Author.Rules.{rules}
 use Rattle.mean.proofs.put_figures.Statement.{statement}
 use Rattle.mean.proofs.put_figures.Tie as tie
 
-slice-write-out : tie.Need-slice-write-out
-slice-write-out c = search rules
+bounds-out-0 : tie.Need-bounds-out-0
+bounds-out-0 c = search rules
 
-slice-write-out-2 : tie.Need-slice-write-out-2
-slice-write-out-2 c = simp length-set (omega arith)
+bounds-out-1 : tie.Need-bounds-out-1
+bounds-out-1 c = simp length-set (omega arith)
 
-slice-write-out-3 : tie.Need-slice-write-out-3
-slice-write-out-3 c = simp length-set (omega arith)
+bounds-out-2 : tie.Need-bounds-out-2
+bounds-out-2 c = simp length-set (omega arith)
 
-slice-write-out-4 : tie.Need-slice-write-out-4
-slice-write-out-4 c = simp length-set (omega arith)
+bounds-out-3 : tie.Need-bounds-out-3
+bounds-out-3 c = simp length-set (omega arith)
 
-slice-write-out-5 : tie.Need-slice-write-out-5
-slice-write-out-5 c = simp length-set (omega arith)
+bounds-out-4 : tie.Need-bounds-out-4
+bounds-out-4 c = simp length-set (omega arith)
 
-slice-write-out-6 : tie.Need-slice-write-out-6
-slice-write-out-6 c = search rules
+bounds-out-5 : tie.Need-bounds-out-5
+bounds-out-5 c = search rules
 
-same_length : tie.Need-same-length
-same_length c = search rules
+shape_of-out : tie.Need-shape_of-out
+shape_of-out c = search rules
 
 returns : tie.Need-returns
 unfolding figures_of
@@ -37,11 +37,11 @@ pub put_figures_spec : {M : Type 1} → statement M
 put_figures_spec =
     tie.close
     (tie.spec
-    slice-write-out
-    slice-write-out-2
-    slice-write-out-3
-    slice-write-out-4
-    slice-write-out-5
-    slice-write-out-6
-    same_length
+    bounds-out-0
+    bounds-out-1
+    bounds-out-2
+    bounds-out-3
+    bounds-out-4
+    bounds-out-5
+    shape_of-out
     returns)

@@ -5,59 +5,59 @@ use borrow.Author.Rules.{rules}
 use Rattle.numbers.proofs.four.Statement.{statement}
 use Rattle.numbers.proofs.four.Tie as tie
 
-abbrev start : tie.After-as-number → tie.Start
+abbrev start : tie.After-as_number-a → tie.Start
 start c = c.before.before.before
 
-shared-slice-read-as-number : tie.Need-shared-slice-read-as-number
-shared-slice-read-as-number c = search rules
+bounds-s-at : tie.Need-bounds-s-at
+bounds-s-at c = search rules
 
-as-number-requires : tie.Need-as-number-requires
-as-number-requires c κs = search rules
+as_number-a-requires : tie.Need-as_number-a-requires
+as_number-a-requires c κs = search rules
 
-add-as-number : tie.Need-overflow-add-as-number
-add-as-number c = search rules
+overflow_add-at : tie.Need-overflow_add-at
+overflow_add-at c = search rules
 
-shared-slice-read-as-number-2 : tie.Need-shared-slice-read-as-number-2
-shared-slice-read-as-number-2 c = search rules
+bounds-s-at-2 : tie.Need-bounds-s-at-2
+bounds-s-at-2 c = search rules
 
-as-number-requires-2 : tie.Need-as-number-requires-2
-as-number-requires-2 c κs = search rules
+as_number-b-requires : tie.Need-as_number-b-requires
+as_number-b-requires c κs = search rules
 
-add-as-number-2 : tie.Need-overflow-add-as-number-2
-add-as-number-2 c = search rules
+overflow_add-at-2 : tie.Need-overflow_add-at-2
+overflow_add-at-2 c = search rules
 
-shared-slice-read-as-number-3 : tie.Need-shared-slice-read-as-number-3
-shared-slice-read-as-number-3 c = search rules
+bounds-s-at-3 : tie.Need-bounds-s-at-3
+bounds-s-at-3 c = search rules
 
-as-number-requires-3 : tie.Need-as-number-requires-3
-as-number-requires-3 c κs = search rules
+as_number-c-requires : tie.Need-as_number-c-requires
+as_number-c-requires c κs = search rules
 
-add-as-number-3 : tie.Need-overflow-add-as-number-3
-add-as-number-3 c = search rules
+overflow_add-at-3 : tie.Need-overflow_add-at-3
+overflow_add-at-3 c = search rules
 
-shared-slice-read-as-number-4 : tie.Need-shared-slice-read-as-number-4
-shared-slice-read-as-number-4 c = search rules
+bounds-s-at-4 : tie.Need-bounds-s-at-4
+bounds-s-at-4 c = search rules
 
-as-number-requires-4 : tie.Need-as-number-requires-4
-as-number-requires-4 c κs = search rules
+as_number-d-requires : tie.Need-as_number-d-requires
+as_number-d-requires c κs = search rules
 
-mul-result : tie.Need-overflow-mul-result
-mul-result c = search rules
+overflow_mul-result : tie.Need-overflow_mul-result
+overflow_mul-result c = search rules
 
-add-result : tie.Need-overflow-add-result
-add-result c = search rules
+overflow_add-result : tie.Need-overflow_add-result
+overflow_add-result c = search rules
 
-mul-result-2 : tie.Need-overflow-mul-result-2
-mul-result-2 c = search rules
+overflow_mul-result-2 : tie.Need-overflow_mul-result-2
+overflow_mul-result-2 c = search rules
 
-add-result-2 : tie.Need-overflow-add-result-2
-add-result-2 c = search rules
+overflow_add-result-2 : tie.Need-overflow_add-result-2
+overflow_add-result-2 c = search rules
 
-mul-result-3 : tie.Need-overflow-mul-result-3
-mul-result-3 c = search rules
+overflow_mul-result-3 : tie.Need-overflow_mul-result-3
+overflow_mul-result-3 c = search rules
 
-add-result-3 : tie.Need-overflow-add-result-3
-add-result-3 c = search rules
+overflow_add-result-3 : tie.Need-overflow_add-result-3
+overflow_add-result-3 c = search rules
 
 returns : tie.Need-returns
 returns c =
@@ -65,8 +65,8 @@ returns c =
     let second = third.before.before in
     let first = second.before.before in
     let a = (start first).args in (
-      four_at_lem a.s.now a.at first.as_number.result second.as-number2.result first.as_number.ensures.0 second.as-number2.ensures.0
-          third.as-number3.result c.as-number4.result third.as-number3.ensures.0 c.as-number4.ensures.0 (start first).requires,
+      four_at_lem a.s.now a.at first.as_number-a.result second.as_number-b.result first.as_number-a.ensures.0 second.as_number-b.ensures.0
+          third.as_number-c.result c.as_number-d.result third.as_number-c.ensures.0 c.as_number-d.ensures.0 (start first).requires,
       omega arith,
     )
 
@@ -74,21 +74,21 @@ pub four_spec : {M : Type 1} → statement M
 four_spec =
     tie.close
     (tie.spec
-    shared-slice-read-as-number
-    as-number-requires
-    add-as-number
-    shared-slice-read-as-number-2
-    as-number-requires-2
-    add-as-number-2
-    shared-slice-read-as-number-3
-    as-number-requires-3
-    add-as-number-3
-    shared-slice-read-as-number-4
-    as-number-requires-4
-    mul-result
-    add-result
-    mul-result-2
-    add-result-2
-    mul-result-3
-    add-result-3
+    bounds-s-at
+    as_number-a-requires
+    overflow_add-at
+    bounds-s-at-2
+    as_number-b-requires
+    overflow_add-at-2
+    bounds-s-at-3
+    as_number-c-requires
+    overflow_add-at-3
+    bounds-s-at-4
+    as_number-d-requires
+    overflow_mul-result
+    overflow_add-result
+    overflow_mul-result-2
+    overflow_add-result-2
+    overflow_mul-result-3
+    overflow_add-result-3
     returns)

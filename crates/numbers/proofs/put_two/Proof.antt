@@ -8,23 +8,23 @@ use borrow.Author.Rules.{rules}
 use Rattle.numbers.proofs.put_two.Statement.{statement}
 use Rattle.numbers.proofs.put_two.Tie as tie
 
-cast-out : tie.Need-overflow-cast-out
-cast-out c = search rules
+overflow_cast-out : tie.Need-overflow_cast-out
+overflow_cast-out c = search rules
 
-slice-write-out : tie.Need-slice-write-out
-slice-write-out c = search rules
+bounds-out-at : tie.Need-bounds-out-at
+bounds-out-at c = search rules
 
-cast-out-2 : tie.Need-overflow-cast-out-2
-cast-out-2 c = search rules
+overflow_cast-out-2 : tie.Need-overflow_cast-out-2
+overflow_cast-out-2 c = search rules
 
-add-out : tie.Need-overflow-add-out
-add-out c = search rules
+overflow_add-out : tie.Need-overflow_add-out
+overflow_add-out c = search rules
 
-slice-write-out-2 : tie.Need-slice-write-out-2
-slice-write-out-2 c = simp length-set (omega arith)
+bounds-out-at-2 : tie.Need-bounds-out-at-2
+bounds-out-at-2 c = simp length-set (omega arith)
 
-same_length : tie.Need-same-length
-same_length c = search rules
+shape_of-out : tie.Need-shape_of-out
+shape_of-out c = search rules
 
 returns : tie.Need-returns
 unfolding digits
@@ -33,4 +33,11 @@ returns c = let a = c.args in stored_two a.at (a.n / 256 % 256) (a.n % 256) a.ou
 pub put_two_spec : {M : Type 1} → statement M
 put_two_spec =
     tie.close
-    (tie.spec cast-out slice-write-out cast-out-2 add-out slice-write-out-2 same_length returns)
+    (tie.spec
+    overflow_cast-out
+    bounds-out-at
+    overflow_cast-out-2
+    overflow_add-out
+    bounds-out-at-2
+    shape_of-out
+    returns)

@@ -5,45 +5,45 @@ use borrow.Author.Rules.{rules}
 use Rattle.numbers.proofs.two.Statement.{statement}
 use Rattle.numbers.proofs.two.Tie as tie
 
-abbrev start : tie.After-as-number → tie.Start
+abbrev start : tie.After-as_number → tie.Start
 start c = c.before.before.before
 
-shared-slice-read-as-number : tie.Need-shared-slice-read-as-number
-shared-slice-read-as-number c = search rules
+bounds-s-at : tie.Need-bounds-s-at
+bounds-s-at c = search rules
 
-as-number-requires : tie.Need-as-number-requires
-as-number-requires c κs = search rules
+as_number-requires : tie.Need-as_number-requires
+as_number-requires c κs = search rules
 
-mul-result : tie.Need-overflow-mul-result
-mul-result c = search rules
+overflow_mul-result : tie.Need-overflow_mul-result
+overflow_mul-result c = search rules
 
-add-as-number : tie.Need-overflow-add-as-number
-add-as-number c = search rules
+overflow_add-at : tie.Need-overflow_add-at
+overflow_add-at c = search rules
 
-shared-slice-read-as-number-2 : tie.Need-shared-slice-read-as-number-2
-shared-slice-read-as-number-2 c = search rules
+bounds-s-at-2 : tie.Need-bounds-s-at-2
+bounds-s-at-2 c = search rules
 
-as-number-requires-2 : tie.Need-as-number-requires-2
-as-number-requires-2 c κs = search rules
+as_number-requires-2 : tie.Need-as_number-requires-2
+as_number-requires-2 c κs = search rules
 
-add-result : tie.Need-overflow-add-result
-add-result c = search rules
+overflow_add-result : tie.Need-overflow_add-result
+overflow_add-result c = search rules
 
 returns : tie.Need-returns
 returns c =
     let high = c.before.before in
     let a = (start high).args in
-    (two_at a.s.now a.at high.as_number.result c.as-number2.result high.as_number.ensures.0 c.as-number2.ensures.0 (start high).requires, omega arith)
+    (two_at a.s.now a.at high.as_number.result c.as_number-2.result high.as_number.ensures.0 c.as_number-2.ensures.0 (start high).requires, omega arith)
 
 pub two_spec : {M : Type 1} → statement M
 two_spec =
     tie.close
     (tie.spec
-    shared-slice-read-as-number
-    as-number-requires
-    mul-result
-    add-as-number
-    shared-slice-read-as-number-2
-    as-number-requires-2
-    add-result
+    bounds-s-at
+    as_number-requires
+    overflow_mul-result
+    overflow_add-at
+    bounds-s-at-2
+    as_number-requires-2
+    overflow_add-result
     returns)

@@ -23,45 +23,52 @@ is_read (bad_entry j) n e = cc
 is_read (as_strings ss) n e = refl
 
 -- where tests 1 and 2 are passed, the header settles it
-abbrev start : tie.Else2 → tie.Start
+abbrev start : tie.Else-stretch-gt64 → tie.Start
 start c = c.before.before.before.before.before
 
-by_header : (c : tie.Else2) → unread (reading (start c).args.header.now) ≡ settled_common (start c).args.key.now (start c).args.header.now (start c).args.stretch.0
+by_header : (c : tie.Else-stretch-gt64) → unread (reading (start c).args.header.now) ≡ settled_common (start c).args.key.now (start c).args.header.now (start c).args.stretch.0
 by_header c =
     let a = (start c).args in
-    common_then a.key.now a.header.now a.stretch.0 true false (eq-eqb _ _ c.before.before.if1.false) (le-ltb _ _ c.if2.false)
+    common_then a.key.now a.header.now a.stretch.0 true false (eq-eqb _ _ c.if-key-ne48.false) (le-ltb _ _ c.if-stretch-gt64.false)
 
-returns : tie.Need-returns
-returns c =
-    let a = c.before.before.before.args in
-    common_then a.key.now a.header.now a.stretch.0 false (ltb longest_stretch a.stretch.0) (ne_eqb _ _ c.if1.true) refl
+returns-then-key-ne48 : tie.Need-returns-then-key-ne48
+returns-then-key-ne48 c =
+    let a = c.args in
+    common_then a.key.now a.header.now a.stretch.0 false (ltb longest_stretch a.stretch.0) (ne_eqb _ _ c.if-key-ne48.true) refl
 
-returns-2 : tie.Need-returns-2
-returns-2 c =
-    let a = c.before.before.before.before.before.args in
-    let over : longest_stretch < a.stretch.0 = c.if2.true in
-    common_then a.key.now a.header.now a.stretch.0 true true (eq-eqb _ _ c.before.before.if1.false) (lt-ltb _ _ over)
+returns-then-stretch-gt64 : tie.Need-returns-then-stretch-gt64
+returns-then-stretch-gt64 c =
+    let a = c.args in
+    let over : longest_stretch < a.stretch.0 = c.if-stretch-gt64.true in
+    common_then a.key.now a.header.now a.stretch.0 true true (eq-eqb _ _ c.if-key-ne48.false) (lt-ltb _ _ over)
 
 read-requires : tie.Need-read-requires
 read-requires c κs = search rules
 
-enum-known-at : tie.Need-enum-known-at
-enum-known-at c = search rules
+enum_known-at : tie.Need-enum_known-at
+enum_known-at c = search rules
 
-enum_told : tie.Need-enum-told
-enum_told c = search rules
+enum_told-1 : tie.Need-enum_told-1
+enum_told-1 c = search rules
 
-returns-3 : tie.Need-returns-3
-returns-3 c =
-    let bad = c.before in
-    let read = bad.before.before in
-    not_read (reading (start read.before).args.header.now) _ (rw bad.at.given.1 at read.read.ensures) ∙ by_header read.before
+returns-in-Bad : tie.Need-returns-in-Bad
+returns-in-Bad c =
+    let bad = c in
+    let read = bad.before in
+    not_read (reading (start read.before).args.header.now) _ (rw bad.in-Bad.is at read.read.ensures) ∙ by_header read.before
 
-returns-4 : tie.Need-returns-4
-returns-4 c =
-    let read = c.before.before in
-    is_read (reading (start read.before).args.header.now) _ (rw c.enum_told.given.1 at read.read.ensures) ∙ by_header read.before
+returns-in-Strings : tie.Need-returns-in-Strings
+returns-in-Strings c =
+    let read = c.before in
+    is_read (reading (start read.before).args.header.now) _ (rw c.in-Strings.is at read.read.ensures) ∙ by_header read.before
 
 pub settled_spec : {M : Type 1} → statement M
 settled_spec =
-    tie.close (tie.spec returns returns-2 read-requires enum-known-at enum_told returns-3 returns-4)
+    tie.close (tie.spec
+    returns-then-key-ne48
+    returns-then-stretch-gt64
+    read-requires
+    enum_known-at
+    enum_told-1
+    returns-in-Bad
+    returns-in-Strings)

@@ -12,55 +12,61 @@ use Rattle.settle.proofs.Settles.{first_is, opening_then}
 use Rattle.settle.proofs.settled_opening.Statement.{statement}
 use Rattle.settle.proofs.settled_opening.Tie as tie
 
-abbrev start : tie.After-settled → tie.Start
+abbrev start : tie.After-settled-first → tie.Start
 start c = c.before.before.before
 
-abbrev t : tie.After-settled → ℕ
+abbrev t : tie.After-settled-first → ℕ
 t c = (start c).args.stretch.0
 
-abbrev sealed : tie.After-settled → ℕ
+abbrev sealed : tie.After-settled-first → ℕ
 sealed c = (start c).args.sealed
 
-abbrev room : tie.After-settled → ℕ
+abbrev room : tie.After-settled-first → ℕ
 room c = (start c).args.room
 
 -- past the common tests: the number by what the others found
-later : (c : tie.Else1) (b d f : Bool) → let s = c.before.before in ltb longest_sealed (sealed s) ≡ b → ltb (sealed s) (t s) ≡ d → ltb (room s) (sealed s) ≡ f
+later : (c : tie.Else-first-ne0) (b d f : Bool) → let s = c.before.before in ltb longest_sealed (sealed s) ≡ b → ltb (sealed s) (t s) ≡ d → ltb (room s) (sealed s) ≡ f
     → (if b then refusal 4 0 else if d then refusal 5 0 else if f then refusal 6 0 else refusal 0 0) ≡ settled_opening (start s).args.key.now (start s).args.header.now (t s) (sealed s) (room s)
 later c b d f =
     let s = c.before.before in
     let a = (start s).args in
-    opening_then a.key.now a.header.now (t s) (sealed s) (room s) s.settled.result b d f s.settled.ensures c.if1.false
+    opening_then a.key.now a.header.now (t s) (sealed s) (room s) s.settled-first.result b d f s.settled-first.ensures c.if-first-ne0.false
 
-settled-requires : tie.Need-settled-requires
-settled-requires c κs = search rules
+settled-first-requires : tie.Need-settled-first-requires
+settled-first-requires c κs = search rules
+
+returns-then-first-ne0 : tie.Need-returns-then-first-ne0
+unfolding settled_opening
+returns-then-first-ne0 c =
+    let s = c.before.before in
+    first_is (settled_common (start s).args.key.now (start s).args.header.now (t s)) _ s.settled-first.result s.settled-first.ensures c.if-first-ne0.true
+
+returns-then-sealed-gt65536 : tie.Need-returns-then-sealed-gt65536
+returns-then-sealed-gt65536 c =
+    let s = c.before.before.before in
+    later c.before true (ltb (sealed s) (t s)) (ltb (room s) (sealed s)) (lt-ltb _ _ c.if-sealed-gt65536.true) refl refl
+
+returns-then-sealed-t : tie.Need-returns-then-sealed-t
+returns-then-sealed-t c =
+    let s = c.before.before.before.before in
+    later c.before.before false true (ltb (room s) (sealed s)) (le-ltb _ _ c.if-sealed-gt65536.false) (lt-ltb _ _ c.if-sealed-t.true) refl
+
+returns-then-room-sealed : tie.Need-returns-then-room-sealed
+returns-then-room-sealed c =
+    let low = c.before in
+    later low.before.before false false true (le-ltb _ _ low.if-sealed-gt65536.false) (le-ltb _ _ low.if-sealed-t.false) (lt-ltb _ _ c.if-room-sealed.true)
 
 returns : tie.Need-returns
-unfolding settled_opening
 returns c =
-    let s = c.before.before in
-    first_is (settled_common (start s).args.key.now (start s).args.header.now (t s)) _ s.settled.result s.settled.ensures c.if1.true
-
-returns-2 : tie.Need-returns-2
-returns-2 c =
-    let s = c.before.before.before in
-    later c.before true (ltb (sealed s) (t s)) (ltb (room s) (sealed s)) (lt-ltb _ _ c.if2.true) refl refl
-
-returns-3 : tie.Need-returns-3
-returns-3 c =
-    let s = c.before.before.before.before in
-    later c.before.before false true (ltb (room s) (sealed s)) (le-ltb _ _ c.before.if2.false) (lt-ltb _ _ c.if3.true) refl
-
-returns-4 : tie.Need-returns-4
-returns-4 c =
     let low = c.before in
-    later low.before.before false false true (le-ltb _ _ low.before.if2.false) (le-ltb _ _ low.if3.false) (lt-ltb _ _ c.if4.true)
-
-returns-5 : tie.Need-returns-5
-returns-5 c =
-    let low = c.before in
-    later low.before.before false false false (le-ltb _ _ low.before.if2.false) (le-ltb _ _ low.if3.false) (le-ltb _ _ c.if4.false)
+    later low.before.before false false false (le-ltb _ _ low.if-sealed-gt65536.false) (le-ltb _ _ low.if-sealed-t.false) (le-ltb _ _ c.if-room-sealed.false)
 
 pub settled_opening_spec : {M : Type 1} → statement M
 settled_opening_spec =
-    tie.close (tie.spec settled-requires returns returns-2 returns-3 returns-4 returns-5)
+    tie.close (tie.spec
+    settled-first-requires
+    returns-then-first-ne0
+    returns-then-sealed-gt65536
+    returns-then-sealed-t
+    returns-then-room-sealed
+    returns)

@@ -8,47 +8,47 @@ use Rattle.laws.proofs.Fronts.{Front, front_more, front_all}
 use Rattle.slices.proofs.clear.Statement.{statement}
 use Rattle.slices.proofs.clear.Tie as tie
 
-abbrev invariant-loop : tie.invariant-loop
-invariant-loop s₀ i₀ i-end s i = (i ≤ length s₀) × (i-end ≡ length s₀) × Front (replicate (length s₀) 0) s i × (length s ≡ length s₀)
+abbrev invariant-loop-i : tie.invariant-loop-i
+invariant-loop-i s₀ i₀ i-end s i = (i ≤ length s₀) × (i-end ≡ length s₀) × Front (replicate (length s₀) 0) s i × (length s ≡ length s₀)
 
-abbrev decreases-loop : tie.decreases-loop
-decreases-loop s₀ i₀ i-end s i = length s₀ - i
+abbrev decreases-loop-i : tie.decreases-loop-i
+decreases-loop-i s₀ i₀ i-end s i = length s₀ - i
 
-loop-holds : tie.Need-loop-init invariant-loop decreases-loop
-loop-holds c = (omega arith, refl, record { long = sym (length-replicate (length c.args.s.now) 0); same = refl }, refl)
+loop-i-init : tie.Need-loop-i-init invariant-loop-i decreases-loop-i
+loop-i-init c = (omega arith, refl, record { long = sym (length-replicate (length c.args.s.now) 0); same = refl }, refl)
 
-slice-write-s : tie.Need-slice-write-s invariant-loop decreases-loop
-slice-write-s c = omega (arith, c.before.loop.invariant.1, c.before.loop.invariant.3)
+bounds-s-i : tie.Need-bounds-s-i invariant-loop-i decreases-loop-i
+bounds-s-i c = omega (arith, c.loop-i.invariant.1, c.loop-i.invariant.3)
 
-loop-less : tie.Need-loop-smaller invariant-loop decreases-loop
-loop-less c = omega (arith, c.before.loop.invariant.1)
+loop-i-smaller : tie.Need-loop-i-smaller invariant-loop-i decreases-loop-i
+loop-i-smaller c = omega (arith, c.loop-i.invariant.1)
 
-loop-again : tie.Need-loop-preserved invariant-loop decreases-loop
-loop-again c =
-    let l = c.before.loop in
-    let n : ℕ = length c.before.before.args.s.now in
+loop-i-preserved : tie.Need-loop-i-preserved invariant-loop-i decreases-loop-i
+loop-i-preserved c =
+    let l = c.loop-i in
+    let n : ℕ = length c.args.s.now in
     let more = front_more 0 l.invariant.2 (omega (arith, l.invariant.1, length-replicate {A = ℕ} n 0)) (sym (get_or-replicate n l.i 0 0 (omega (arith, l.invariant.1)))) in
     (omega (arith, l.invariant.1), l.invariant.1, more, more.long ∙ length-replicate n 0)
 
-same_length : tie.Need-same-length invariant-loop decreases-loop
-same_length c = c.before.loop.invariant.3
+shape_of-s : tie.Need-shape_of-s invariant-loop-i decreases-loop-i
+shape_of-s c = c.loop-i.invariant.3
 
-returns : tie.Need-returns invariant-loop decreases-loop
+returns : tie.Need-returns invariant-loop-i decreases-loop-i
 returns c =
-    let l = c.before.loop in
-    let n : ℕ = length c.before.before.args.s.now in
+    let l = c.loop-i in
+    let n : ℕ = length c.args.s.now in
     front_all l.invariant.2 (length-replicate n 0 ∙ omega (arith, l.invariant.1))
 
 pub clear_spec : {M : Type 1} → statement M
 clear_spec =
     tie.close
     (tie.spec
-    invariant-loop
-    decreases-loop
-    loop-holds
-    slice-write-s
+    invariant-loop-i
+    decreases-loop-i
+    loop-i-init
+    bounds-s-i
     (λ c. search rules)
-    loop-less
-    loop-again
-    same_length
+    loop-i-smaller
+    loop-i-preserved
+    shape_of-s
     returns)

@@ -4,11 +4,13 @@ use borrow.Author.Rules.{rules}
 use Rattle.answer.proofs.StretchBytes.bits.Statement.{statement}
 use Rattle.answer.proofs.StretchBytes.bits.Tie as tie
 
-mul-bits : tie.Need-overflow-mul-t2
-mul-bits c = search rules
+overflow_mul-result : tie.Need-overflow_mul-result
+overflow_mul-result c = search rules
 
 returns : tie.Need-returns
 returns c = refl
 
 pub bits_spec : {M : Type 1} → statement M
-bits_spec = tie.close (tie.spec mul-bits returns)
+bits_spec = tie.close (tie.spec
+    overflow_mul-result
+    returns)

@@ -7,4 +7,5 @@ returns : tie.Need-returns
 returns c = refl
 
 pub at_spec : {M : Type 1} → statement M
-at_spec = tie.close (tie.spec returns)
+at_spec = tie.close (tie.spec
+    returns)

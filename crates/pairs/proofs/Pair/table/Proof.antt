@@ -7,4 +7,5 @@ returns : tie.Need-returns
 returns c = refl
 
 pub table_spec : {M : Type 1} → statement M
-table_spec = tie.close (tie.spec returns)
+table_spec = tie.close (tie.spec
+    returns)
