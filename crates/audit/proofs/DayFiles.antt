@@ -84,7 +84,7 @@ module _ (ls : List ℕ) (J : Bytes) (hs ts ns : List ℕ) (X out : Bytes) (r : 
       let h = fits.all in
       record {
         headers_fit = (headers_listed_lem ls J h.day.headers h.headers_are).each;
-        records_fit = subst (λ (n : ℕ). RecordsFit n h.day.records) (sym h.headers-many) (records_listed_lem (length ls) hs ts ns X h.day.records h.records_are).each;
+        records_fit = subst (λ (n : ℕ). RecordsFit n h.day.records) (sym h.headers_many) (records_listed_lem (length ls) hs ts ns X h.day.records h.records_are).each;
         short = omega (arith, h.size, fits.short);
       }
 
@@ -124,7 +124,7 @@ module _ (ls : List ℕ) (J : Bytes) (hs ts ns : List ℕ) (X out : Bytes) (r : 
       let t = own.stretch in
       let passed = (sealed_passes key header t M room q left seal done-0).common in
       let fixed : Fixed key header passed.strings t =
-      record { key_bytes = record { len = passed.key-long; low = key_low }; header_bytes = header_low; reads = passed.reads; short = passed.short } in
+      record { key_bytes = record { len = passed.key_long; low = key_low }; header_bytes = header_low; reads = passed.reads; short = passed.short } in
       let by_day : outcome s end ≡ open_record key handed_day (some own) buffer =
       opened ∙ ap (λ (o : Option Day). open_in key o k buffer) written_day ∙ ap (λ (o : Option Record). open_record key handed_day o buffer) elem in
       let o : OutcomeAt = opening key header t own.sealed buffer in

@@ -230,7 +230,7 @@ never_7_at_stretch_0 key header C out r last k h b call seven = go (settled_open
     go n s true e =
         let fits = opening_fits key header 0 (length C) (length out) n s (eqb-true n.number 0 e) in
         let fixed : Fixed key header fits.common.strings 0 =
-        record { key_bytes = record { len = fits.common.key-long; low = k }; header_bytes = h; reads = fits.common.reads; short = fits.common.short } in
+        record { key_bytes = record { len = fits.common.key_long; low = k }; header_bytes = h; reads = fits.common.reads; short = fits.common.short } in
         omega (arith, opens_at_stretch_0 key header fits.common.strings 0 fixed C out (record { bytes = b; limit = fits.within }) fits.has_room r last call refl, seven)
     go n s false e =
         omega (arith, opening_most key header 0 (length C) (length out), ap (λ (r : Refusal). r.number) s, ap (λ (o : OutcomeAt). o.number) (call ∙ opening_refused key header 0 C out n s (eqb-false n.number 0 e)), seven)

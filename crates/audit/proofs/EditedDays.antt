@@ -194,7 +194,7 @@ module _ (B : Bytes) (low : Below 256 B) (size : ℕ) (day : Day) (reads : read_
       let h = header_of after new in
       let passed = (sealed_passes key h stretch M room q left seal done-0).common in
       let fixed : Fixed key h passed.strings stretch =
-      record { key_bytes = record { len = passed.key-long; low = key_low }; header_bytes = header_low; reads = passed.reads; short = passed.short } in
+      record { key_bytes = record { len = passed.key_long; low = key_low }; header_bytes = header_low; reads = passed.reads; short = passed.short } in
       let by_day : outcome s end ≡ open_record key after (some new) buffer =
       opened ∙ by_reading key (written r last) (length day.records) buffer after new grown_reads (grown_last number header stretch sealed day) in
       let o : OutcomeAt = opening key h stretch sealed buffer in

@@ -45,7 +45,7 @@ opened_length key header t C out r last k h b call z =
         let fits = opening_fits key header t (length C) (length out) n s (eqb-true n.number 0 e) in
         let ss : List Bytes = fits.common.strings in
         let fixed : Fixed key header ss t =
-        record { key_bytes = record { len = fits.common.key-long; low = k }; header_bytes = h; reads = fits.common.reads; short = fits.common.short } in
+        record { key_bytes = record { len = fits.common.key_long; low = k }; header_bytes = h; reads = fits.common.reads; short = fits.common.short } in
         let within : Within key header ss t fixed C = record { bytes = b; limit = fits.within } in
         let text = (opens_iff_sealed key header ss t fixed C out within fits.has_room r last call).0 z in
         let size = (opening_returns key header ss t fixed C out within fits.has_room r last call text.0 text.1).0 in

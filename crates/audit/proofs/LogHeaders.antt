@@ -78,7 +78,7 @@ module _ (nonce host collector locale out : Bytes) (r : Answer) (last : Bytes) (
     -- what the builder wrote reads, with exactly the four items
     pub written_reads : read_header (written r last) ≡ some (nonce ∷ host ∷ collector ∷ locale ∷ [])
     written_reads =
-        ap read_header wrote.header-first ∙ log_header_reads nonce host collector locale nonce_fits host_fits collector_fits locale_fits
+        ap read_header wrote.header_first ∙ log_header_reads nonce host collector locale nonce_fits host_fits collector_fits locale_fits
 
 -- two calls that answered 0 and wrote equal headers had equal items
 pub equal_headers : (nonce host collector locale out : Bytes) (r : Answer) (last : Bytes) (call : Built nonce host collector locale out r last)
@@ -90,4 +90,4 @@ pub equal_headers : (nonce host collector locale out : Bytes) (r : Answer) (last
 equal_headers a b c d o r l p z i a' b' c' d' o' r' l' p' z' i' e =
     same_items a b c d a' b' c' d' (nonce_fits a b c d o r l p z i) (host_fits a b c d o r l p z i) (collector_fits a b c d o r l p z i) (locale_fits a b c d o r l p z i)
     (nonce_fits a' b' c' d' o' r' l' p' z' i') (host_fits a' b' c' d' o' r' l' p' z' i') (collector_fits a' b' c' d' o' r' l' p' z' i') (locale_fits a' b' c' d' o' r' l' p' z' i')
-    (sym (wrote a b c d o r l p z).header-first ∙ e ∙ (wrote a' b' c' d' o' r' l' p' z').header-first)
+    (sym (wrote a b c d o r l p z).header_first ∙ e ∙ (wrote a' b' c' d' o' r' l' p' z').header_first)

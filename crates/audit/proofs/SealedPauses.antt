@@ -126,7 +126,7 @@ module _ (key : Bytes) (day : Day) (r : Record) (u : ℕ) (p : OfPause key day r
   opened =
       let passed = (sealed_passes key h t M p.room p.answer p.left p.call p.answer_0).common in
       let fixed : Fixed key h passed.strings t =
-      record { key_bytes = record { len = passed.key-long; low = key_low }; header_bytes = header_low; reads = passed.reads; short = passed.short } in
+      record { key_bytes = record { len = passed.key_long; low = key_low }; header_bytes = header_low; reads = passed.reads; short = passed.short } in
       let long : length M + t ≤ length zeros =
       omega
       (arith, ap length p.wrote, written_long key h passed.strings t fixed M p.room p.bytes p.answer p.left p.call p.answer_0, length-replicate {A = ℕ} (length r.sealed) 0) in

@@ -136,7 +136,7 @@ module _ (ls : List ℕ) (J : Bytes) (hs ts ns : List ℕ) (X : Bytes) where
         let at : first ≡ first_place day.headers = e ∙ ap (λ (w : Bytes). 8 + length w) heads_are ∙ sym (first_place_lem day.headers) in
         let places : write_places (places_by first ns) ++ [] ≡ write_places (places_from (first_place day.headers) day.records) =
         append-nil (write_places (places_by first ns)) ∙ ap write_places (by_lengths.0 first ∙ ap (λ (k : ℕ). places_from k day.records) at) in
-        (λ i. digits 256 4 (sym h.headers-many i) ++ (heads_are i ++ (digits 256 4 (sym h.records-many i) ++ (records_are i ++ (digits 256 4 (sym h.records-many i) ++ places i)))))
+        (λ i. digits 256 4 (sym h.headers_many i) ++ (heads_are i ++ (digits 256 4 (sym h.records_many i) ++ (records_are i ++ (digits 256 4 (sym h.records_many i) ++ places i)))))
         ∙ sym (day_then day)
 
     module _ (out o1 o2 o3 o4 o5 o6 : Bytes) (end index : ℕ) (room : size_of (length ls) (length J) (length ns) (length X) ≤ length out)
@@ -158,7 +158,7 @@ module _ (ls : List ℕ) (J : Bytes) (hs ts ns : List ℕ) (X : Bytes) where
           let places_size : length places ≡ 4 * length ns =
           ap (λ (l : List ℕ). length (write_places l)) (by_lengths.0 (end + 4))
           ∙ places_long (places_from (end + 4) h.day.records)
-          ∙ omega (arith, places_many (end + 4) h.day.records, h.records-many) in
+          ∙ omega (arith, places_many (end + 4) h.day.records, h.records_many) in
           let a = put_more c (head_bytes ++ (d ++ (record_bytes ++ (d ++ (places ++ []))))) o1 4 (put_none whole 0 out) refl p1 (omega (arith, lc)) (omega (arith, room)) k1 in
           let b = put_more head_bytes (d ++ (record_bytes ++ (d ++ (places ++ [])))) o2 end a refl p2 ended (omega (arith, room, ended, heads_long)) k2 in
           let c3 = put_more d (record_bytes ++ (d ++ (places ++ []))) o3 (end + 4) b refl p3 (omega (arith, ld)) (omega (arith, room, ended, heads_long)) k3 in

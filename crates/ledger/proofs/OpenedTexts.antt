@@ -63,7 +63,7 @@ module _ (key header : Bytes) (t : ℕ) (C out : Bytes) (key_low : Below 256 key
           let fits = opening_fits key header t (length C) (length out) n s (eqb-true n.number 0 e) in
           let ss : List Bytes = fits.common.strings in
           let fixed : Fixed key header ss t =
-          record { key_bytes = record { len = fits.common.key-long; low = key_low }; header_bytes = header_low; reads = fits.common.reads; short = fits.common.short } in
+          record { key_bytes = record { len = fits.common.key_long; low = key_low }; header_bytes = header_low; reads = fits.common.reads; short = fits.common.short } in
           found ss fixed (decrypt (E (key_of key)) ss t C) refl (opening_opened key header t C out n ss s (eqb-true n.number 0 e) fits.common.reads)
       settled n s false e =
           absurd (eqb-false n.number 0 e (sym (ap (λ (a : OutcomeAt). a.number) (opening_refused key header t C out n s (eqb-false n.number 0 e))) ∙ z))

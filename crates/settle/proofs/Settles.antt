@@ -190,7 +190,7 @@ module _ (key header : Bytes) (stretch : ℕ) where
         let reads : reading header ≡ as_strings strings = reads_as header strings h in
         let all = all_passed later positive r (e ∙ door.settled) z in
         let tests_passed : Passes (tests later) =
-        (ap not (eq-eqb _ _ all.0.key-long), (le-ltb _ _ all.0.short, (ap unreadable reads, all.1))) in
+        (ap not (eq-eqb _ _ all.0.key_long), (le-ltb _ _ all.0.short, (ap unreadable reads, all.1))) in
         door.is_call ∙ call_done (tests later) (headed rest out (reading header)) out tests_passed ∙ ap (headed rest out) reads
 
     -- what the refusals 1, 2 and 3 have, each later one, and what is done, the call has

@@ -75,7 +75,7 @@ returns c =
     let l = at_loop.loop in
     let a = (start at_loop).args in
     let s : RecordStep Bad a.file.now a.headers l.at = rw c.enum_told.given.1 at r.record-at.ensures in
-    sym (l.inv.3 ∙ records_stop a.file.now (low at_loop.before) (start at_loop).pre.1 a.records a.headers l.left l.at l.place (omega arith) l.inv.0 (omega arith) s)
+    sym (l.invariant.3 ∙ records_stop a.file.now (low at_loop.before) (start at_loop).pre.1 a.records a.headers l.left l.at l.place (omega arith) l.invariant.0 (omega arith) s)
 
 four-requires : tie.Need-four-requires invariant-loop decreases-loop
 four-requires c κs = search rules
@@ -86,7 +86,7 @@ returns-2 c =
     let at_loop = looped (read told) in
     let l = at_loop.loop in
     let a = (start at_loop).args in
-    sym (l.inv.3 ∙ records_wrong a.file.now (low at_loop.before) (start at_loop).pre.1 a.records a.headers l.left l.at l.place (omega arith) l.inv.0 (omega arith) (e told) (step told) (λ w. c.if1.true (c.before.four.ensures.0 ∙ w)))
+    sym (l.invariant.3 ∙ records_wrong a.file.now (low at_loop.before) (start at_loop).pre.1 a.records a.headers l.left l.at l.place (omega arith) l.invariant.0 (omega arith) (e told) (step told) (λ w. c.if1.true (c.before.four.ensures.0 ∙ w)))
 
 add-place : tie.Need-overflow-add-place invariant-loop decreases-loop
 add-place c = search rules
@@ -103,7 +103,7 @@ loop-again c =
     let at_loop = looped (read told) in
     let l = at_loop.loop in
     let a = (start at_loop).args in
-    ((step told).1, omega arith, omega arith, l.inv.3 ∙ records_turn a.file.now (low at_loop.before) (start at_loop).pre.1 a.records a.headers l.left l.at l.place (omega arith) l.inv.0 (omega arith) (e told) (step told) (sym c.before.four.ensures.0 ∙ c.if1.false))
+    ((step told).1, omega arith, omega arith, l.invariant.3 ∙ records_turn a.file.now (low at_loop.before) (start at_loop).pre.1 a.records a.headers l.left l.at l.place (omega arith) l.invariant.0 (omega arith) (e told) (step told) (sym c.before.four.ensures.0 ∙ c.if1.false))
 
 sub-if2 : tie.Need-overflow-sub-if2 invariant-loop decreases-loop
 sub-if2 c = search rules

@@ -32,7 +32,7 @@ returns c =
     let t = turn c.before in
     let l = t.before.loop in
     let a = t.before.before.args in
-    rising_low a.dropped.now a.records l.i l.low t.loop-test.taken c.if1.true ∙ sym l.inv.1
+    rising_low a.dropped.now a.records l.i l.low t.loop-test.taken c.if1.true ∙ sym l.invariant.1
 
 returns-2 : tie.Need-returns-2 invariant-loop decreases-loop
 returns-2 c =
@@ -40,7 +40,7 @@ returns-2 c =
     let t = turn e.before in
     let l = t.before.loop in
     let a = t.before.before.args in
-    rising_absent a.dropped.now a.records l.i l.low t.loop-test.taken e.if1.false c.if2.true ∙ sym l.inv.1
+    rising_absent a.dropped.now a.records l.i l.low t.loop-test.taken e.if1.false c.if2.true ∙ sym l.invariant.1
 
 add_low : tie.Need-overflow-add-low invariant-loop decreases-loop
 add_low c = search rules
@@ -57,7 +57,7 @@ loop-again c =
     let t = turn e.before in
     let l = t.before.loop in
     let a = t.before.before.args in
-    (omega arith, l.inv.1 ∙ rising_turn a.dropped.now a.records l.i l.low t.loop-test.taken e.if1.false c.if2.false)
+    (omega arith, l.invariant.1 ∙ rising_turn a.dropped.now a.records l.i l.low t.loop-test.taken e.if1.false c.if2.false)
 
 returns-3 : tie.Need-returns-3 invariant-loop decreases-loop
 returns-3 c =

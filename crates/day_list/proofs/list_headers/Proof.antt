@@ -84,12 +84,12 @@ loop-again c =
     let inside : l.i < headers_in o = omega (arith, s.pre.0) in
     let own : List ℕ = (l.at + 2) ∷ (l.at + 2 + t.two.result) ∷ [] in
     let more : headers_listed o (l.i + 1) ≡ headers_listed o l.i ++ own =
-    headers_more o l.i inside ∙ ap₂ (λ (a b : ℕ). headers_listed o l.i ++ (a + 2) ∷ b ∷ []) (sym l.inv.1) (sym next) in
+    headers_more o l.i inside ∙ ap₂ (λ (a b : ℕ). headers_listed o l.i ++ (a + 2) ∷ b ∷ []) (sym l.invariant.1) (sym next) in
     let here : 0 + 2 * l.i ≡ 2 * l.i = omega arith in (
       omega arith,
       next,
-      put.auto.0 ∙ l.inv.2,
-      then_put 0 (2 * l.i) (headers_listed o l.i) own s.args.places.now l.places put.new.0 l.inv.3 (headers_long o l.i (omega arith))
+      put.auto.0 ∙ l.invariant.2,
+      then_put 0 (2 * l.i) (headers_listed o l.i) own s.args.places.now l.places put.new.0 l.invariant.3 (headers_long o l.i (omega arith))
           (put.ensures ∙ ap (λ (n : ℕ). placed n own l.places) (sym here)) (omega (arith, s.pre.1))
           ∙ ap (λ (w : List ℕ). placed 0 w s.args.places.now) (sym more),
     )

@@ -37,7 +37,7 @@ module _ (l : tie.At-loop invariant-loop decreases-loop) where
 
   -- the place stands within the file
   short : l.loop.at ≤ 65536
-  short = omega (arith, l.loop.inv.1, places_short start.args.file.now low (64 * i))
+  short = omega (arith, l.loop.invariant.1, places_short start.args.file.now low (64 * i))
 
 abbrev inside : tie.After-smaller2 invariant-loop decreases-loop → tie.In-loop invariant-loop decreases-loop
 inside c = c.before.before
@@ -80,7 +80,7 @@ place-from-requires c κs =
     let next = c.smaller2.ensures in
     let most : min (64 * i l) headers ≤ min (64 * i l + 64) headers =
     le-min (le_trans (min-le_left (64 * i l) headers) (omega arith)) (min-le_right (64 * i l) headers) in (
-      l.loop.inv.1 ∙ sym (ap (length_place (o l)) from ∙ place_smaller (o l) (64 * i l) headers (start l).pre),
+      l.loop.invariant.1 ∙ sym (ap (length_place (o l)) from ∙ place_smaller (o l) (64 * i l) headers (start l).pre),
       omega (arith, from, next, most),
       omega (arith, next, min-le_right (64 * i l + 64) headers, (start l).pre),
     )
@@ -101,7 +101,7 @@ loop-again c =
           ∙ ap (length_place (o l)) n.smaller2.ensures
           ∙ place_smaller (o l) (64 * i l + 64) (start l).args.headers (start l).pre
           ∙ ap (length_place (o l)) more,
-      front_more l.loop.at l.loop.inv.2 (omega (arith, marks_many (o l))) (l.loop.inv.1 ∙ sym (mark_at (o l) (i l) (omega arith))),
+      front_more l.loop.at l.loop.invariant.2 (omega (arith, marks_many (o l))) (l.loop.invariant.1 ∙ sym (mark_at (o l) (i l) (omega arith))),
     )
 
 returns : tie.Need-returns invariant-loop decreases-loop

@@ -101,13 +101,13 @@ move-kept-requires : tie.Need-move-kept-requires invariant-loop decreases-loop
 move-kept-requires c κs =
     let w = c.before.before in
     let t = turn w in
-    (omega (arith, (now_packed t).behind, written_long t), omega (arith, room t, size_is w, t.before.loop.inv.1, (now_packed t).long))
+    (omega (arith, (now_packed t).behind, written_long t), omega (arith, room t, size_is w, t.before.loop.invariant.1, (now_packed t).long))
 
 add-from : tie.Need-overflow-add-from invariant-loop decreases-loop
 add-from c =
     let w = c.before.before.before.before.before in
     let t = turn w in
-    omega (arith, room t, size_is w, t.before.loop.inv.1)
+    omega (arith, room t, size_is w, t.before.loop.invariant.1)
 
 add-i : tie.Need-overflow-add-i invariant-loop decreases-loop
 add-i c = search rules
@@ -125,13 +125,13 @@ loop-again c =
     let part : kept_part b.bit.result (take (2 + w.two.result) (drop l.from l.out)) ≡ kept_part (bit_of (table t) (i t)) (own t) =
     λ j. kept_part (b.bit.ensures.0 j) (take (size_is w j) (read_same t j)) in
     let kept = kept_part (bit_of (table t) (i t)) (own t) in
-    let next : l.from + (2 + w.two.result) ≡ head_end (out₀ t) (i t + 1) = omega (arith, l.inv.1, size_is w, head_more (out₀ t) (i t)) in
+    let next : l.from + (2 + w.two.result) ≡ head_end (out₀ t) (i t + 1) = omega (arith, l.invariant.1, size_is w, head_more (out₀ t) (i t)) in
     let more = heads_more (out₀ t) (table t) (i t) in
     let short : length kept ≤ size t =
     omega (arith, part_short (bit_of (table t) (i t)) (own t), length-take-le (size t) (drop (head_end (out₀ t) (i t)) (out₀ t)) (omega (arith, room t, length-drop (head_end (out₀ t) (i t)) (out₀ t)))) in (
       omega arith,
       next,
-      m.move-kept.ensures.0 ∙ omega (arith, ap length part, l.inv.2, ap length more, length-append (heads_kept (out₀ t) (table t) (i t)) kept),
+      m.move-kept.ensures.0 ∙ omega (arith, ap length part, l.invariant.2, ap length more, length-append (heads_kept (out₀ t) (table t) (i t)) kept),
       packed_as (append_assoc (take 4 (out₀ t)) (heads_kept (out₀ t) (table t) (i t)) kept ∙ ap (λ (X : Bytes). take 4 (out₀ t) ++ X) (sym more)) refl
           (packed_more (now_packed t) l.to (sym (written_long t)) kept (l.from + (2 + w.two.result)) (omega arith)
           (omega (arith, short, (now_packed t).behind, written_long t, size_is w)) (omega (arith, next, next_inside t)) m.move-kept.new.0

@@ -185,7 +185,7 @@ put-kept-requires c κs =
 step-requires : tie.Need-step-requires invariant-loop decreases-loop
 step-requires c κs =
     let t = turn c.before.before.before.before.before in
-    omega (arith, small t, t.before.loop.inv.3)
+    omega (arith, small t, t.before.loop.invariant.3)
 
 add-k : tie.Need-overflow-add-k invariant-loop decreases-loop
 add-k c = search rules
@@ -212,8 +212,8 @@ loop-again c =
       omega arith,
       end_is e,
       subst (λ (j : ℕ). Beside (dropped t) (begin t).args.records j (k t + 1)) (sym (stepped ∙ ap (λ (b : Bool). if b then l.j + 1 else l.j) n.next-is.ensures)) (next t).1,
-      at_most l.j (k t) n.next-is.result c.step.result stepped l.inv.3,
-      p.put-kept.ensures.0 ∙ omega (arith, ap length part, l.inv.4, ap length more, length-append (kept t) own),
+      at_most l.j (k t) n.next-is.result c.step.result stepped l.invariant.3,
+      p.put-kept.ensures.0 ∙ omega (arith, ap length part, l.invariant.4, ap length more, length-append (kept t) own),
       packed_as (append_assoc (take (begin t).args.start (out₀ t)) (kept t) own ∙ ap (λ (X : Bytes). take (begin t).args.start (out₀ t) ++ X) (sym more)) refl
           (packed_more (now_packed t) l.to (sym (written_long t)) own e.entry_at.result.end (omega (arith, end_is e, here t, long_enough t))
           (omega (arith, short, body_long t, (now_packed t).behind, written_long t, end_is e, here t, long_enough t)) (omega (arith, end_is e, end_inside t, (begin t).pre.3)) p.put-kept.new.0

@@ -47,7 +47,7 @@ bit-requires c κs = omega (arith, inside (turn c))
 add_r : tie.Need-overflow-add-r invariant-loop decreases-loop
 add_r c =
     let t = turn (noted c) in
-    omega (arith, inside t, bits_below_lem (table t) t.before.loop.i, t.before.loop.inv.1, c.bit.ensures.1)
+    omega (arith, inside t, bits_below_lem (table t) t.before.loop.i, t.before.loop.invariant.1, c.bit.ensures.1)
 
 add-i : tie.Need-overflow-add-i invariant-loop decreases-loop
 add-i c = omega (arith, inside (turn (noted c)))
@@ -61,9 +61,9 @@ loop-again c =
     let t = turn n in
     let l = t.before.loop in (
       omega (arith, t.loop-test.taken),
-      (λ j. l.inv.1 j + c.bit.ensures.0 j) ∙ bits_more (table t) l.i,
-      noted_long l.before n.note.last.0 l.i l.r n.note.ensures ∙ l.inv.2,
-      tallied_more l.before n.note.last.0 (table t) l.i l.r (omega (arith, inside t, l.inv.2)) l.inv.1 n.note.ensures l.inv.3,
+      (λ j. l.invariant.1 j + c.bit.ensures.0 j) ∙ bits_more (table t) l.i,
+      noted_long l.before n.note.last.0 l.i l.r n.note.ensures ∙ l.invariant.2,
+      tallied_more l.before n.note.last.0 (table t) l.i l.r (omega (arith, inside t, l.invariant.2)) l.invariant.1 n.note.ensures l.invariant.3,
     )
 
 returns : tie.Need-returns invariant-loop decreases-loop

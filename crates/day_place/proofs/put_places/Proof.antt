@@ -89,7 +89,7 @@ module _ (c : tie.After-put-four invariant-loop decreases-loop) where
   out = c.put_four.new.0
 
   out_long : length out ≡ length (out₀ turn)
-  out_long = c.put_four.auto.0 ∙ turn.before.loop.inv.2
+  out_long = c.put_four.auto.0 ∙ turn.before.loop.invariant.2
 
   front_long : length (take (at turn) out) ≡ at turn
   front_long = length-take-le (at turn) out (omega (arith, out_long, (start turn).pre.1))
@@ -137,7 +137,7 @@ loop-again c =
     let put = p.put_four.ensures in
     let next : c.entry_at.result.end ≡ end_of (f t) (first t) (i t + 1) =
     ap (λ (e : Entry). e.end) c.entry_at.ensures.0
-    ∙ (λ j. (entry_at (same t (out p) put j) (l.inv.1 j)).end)
+    ∙ (λ j. (entry_at (same t (out p) put j) (l.invariant.1 j)).end)
     ∙ sym (end_more (f t) (first t) (i t)) in
     (omega arith, next, out_long p, more t (out p) put)
 

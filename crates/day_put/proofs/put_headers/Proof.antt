@@ -87,7 +87,7 @@ part-put-end c = (next c.before.before).0
 put-requires : tie.Need-put-requires invariant-loop decreases-loop
 put-requires c κs =
     let l = looped c in
-    omega (arith, part_long l, l.before.loop.inv.4, (next l).0, l.before.loop.inv.0.kept)
+    omega (arith, part_long l, l.before.loop.invariant.4, (next l).0, l.before.loop.invariant.0.kept)
 
 add-i : tie.Need-overflow-add-i invariant-loop decreases-loop
 add-i c = search rules
@@ -99,7 +99,7 @@ loop-again : tie.Need-loop-preserved invariant-loop decreases-loop
 loop-again c =
     let p = c.before.before in
     let l = looped p.before in
-    let inv = l.before.loop.inv in
+    let inv = l.before.loop.invariant in
     let part = take (from l + n l - from l) (drop (from l) (headers l)) in
     let whole = write_strings (part ∷ []) in
     let size : length whole ≡ 2 + n l = one_long part ∙ ap (λ (k : ℕ). 2 + k) (part_long l) in (

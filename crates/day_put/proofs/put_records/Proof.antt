@@ -139,17 +139,17 @@ part-put-record-end c = (next c.before.before.before.before).0
 put-record-requires : tie.Need-put-record-requires invariant-loop decreases-loop
 put-record-requires c κs =
     let l = looped c in
-    (omega (arith, (next l).1), omega (arith, part_long l, l.before.loop.inv.4, (next l).0, l.before.loop.inv.0.kept))
+    (omega (arith, (next l).1), omega (arith, part_long l, l.before.loop.invariant.4, (next l).0, l.before.loop.invariant.0.kept))
 
 add_at : tie.Need-overflow-add-at invariant-loop decreases-loop
 add_at c =
     let l = looped c.before.before.before in
-    omega (arith, l.before.loop.inv.4, (next l).0)
+    omega (arith, l.before.loop.invariant.4, (next l).0)
 
 add-at-2 : tie.Need-overflow-add-at-2 invariant-loop decreases-loop
 add-at-2 c =
     let l = looped c.before.before.before in
-    omega (arith, l.before.loop.inv.4, (next l).0)
+    omega (arith, l.before.loop.invariant.4, (next l).0)
 
 add-i : tie.Need-overflow-add-i invariant-loop decreases-loop
 add-i c = search rules
@@ -161,7 +161,7 @@ loop-again : tie.Need-loop-preserved invariant-loop decreases-loop
 loop-again c =
     let p = c.before.before in
     let l = looped p.before in
-    let inv = l.before.loop.inv in
+    let inv = l.before.loop.invariant in
     let own = record_with (get_or (numbers l) (i l) 0) (get_or (stretches l) (i l) 0) (part l) in
     let size : length (write_record own) ≡ 7 + n l = record_long own ∙ ap (λ (k : ℕ). 7 + k) (part_long l) in (
       put_more (write_record own) (others l) p.put_record.new.0 (l.before.loop.at + 7 + n l) inv.0

@@ -7,95 +7,95 @@ use borrow.Author.Rules.{rules}
 use Rattle.day_steps.proofs.header_at.Statement.{statement}
 use Rattle.day_steps.proofs.header_at.Tie as tie
 
-abbrev start : tie.Else1 → tie.Start
+abbrev start : tie.Else-file-at-lt2 → tie.Start
 start c = c.before.before
 
-abbrev sized : tie.After-read → tie.After-two
+abbrev sized : tie.After-read → tie.After-two-size
 sized c = c.before.before.before
 
-module _ (c : tie.After-two) where
+module _ (c : tie.After-two-size) where
   abbrev f : Bytes
   f = (start c.before).args.file.now
 
   abbrev at : ℕ
   at = (start c.before).args.at
 
-sub-if1 : tie.Need-overflow-sub-if1
-sub-if1 c = search rules
+overflow_sub-file : tie.Need-overflow_sub-file
+overflow_sub-file c = search rules
 
-returns : tie.Need-returns
-returns c =
+returns-then-file-at-lt2 : tie.Need-returns-then-file-at-lt2
+returns-then-file-at-lt2 c =
     let s = c.before.before in
-    header_few s.args.file.now s.args.at s.requires c.if1.true
+    header_few s.args.file.now s.args.at s.requires c.if-file-at-lt2.true
 
-two-requires : tie.Need-two-requires
-two-requires c κs = search rules
+two-size-requires : tie.Need-two-size-requires
+two-size-requires c κs = search rules
 
-add_start : tie.Need-overflow-add-start
-add_start c = search rules
+overflow_add-start : tie.Need-overflow_add-start
+overflow_add-start c = search rules
 
-sub-if2 : tie.Need-overflow-sub-if2
-sub-if2 c = search rules
+overflow_sub-file-2 : tie.Need-overflow_sub-file-2
+overflow_sub-file-2 c = search rules
 
-returns-2 : tie.Need-returns-2
-returns-2 c =
+returns-then-file-start : tie.Need-returns-then-file-start
+returns-then-file-start c =
     let t = c.before in
-    header_long (f t) (at t) (start t.before).requires t.two.result t.two.ensures.0 (omega arith) c.if2.true
+    header_long (f t) (at t) (start t.before).requires t.two-size.result t.two-size.ensures.0 (omega arith) c.if-file-start.true
 
-add-end : tie.Need-overflow-add-end
-add-end c = search rules
+overflow_add-end : tie.Need-overflow_add-end
+overflow_add-end c = search rules
 
-sub_read : tie.Need-overflow-sub-read
-sub_read c = search rules
+slice_bounds-read-count : tie.Need-slice_bounds-read-count
+slice_bounds-read-count c = search rules
 
-part-read-start : tie.Need-slice-bounds-read-start
-part-read-start c = search rules
+slice_bounds-read-start : tie.Need-slice_bounds-read-start
+slice_bounds-read-start c = search rules
 
-part-read-end : tie.Need-slice-bounds-read-end
-part-read-end c = search rules
+slice_bounds-read-end : tie.Need-slice_bounds-read-end
+slice_bounds-read-end c = search rules
 
 read-requires : tie.Need-read-requires
 read-requires c κs = search rules
 
-enum_told : tie.Need-enum-told
-enum_told c = search rules
+enum_told-1 : tie.Need-enum_told-1
+enum_told-1 c = search rules
 
-enum-told-2 : tie.Need-enum-told-2
-enum-told-2 c = search rules
+enum_told-in_default : tie.Need-enum_told-in_default
+enum_told-in_default c = search rules
 
-returns-3 : tie.Need-returns-3
-returns-3 c =
-    let r = c.before.before in
+returns-in_default : tie.Need-returns-in_default
+returns-in_default c =
+    let r = c.before in
     let t = sized r in
-    header_bad (f t) (at t) (start t.before).requires t.two.result t.two.ensures.0 (omega arith) r.before.before.if2.false
-    _ (rw c.enum-told2.given.1 at r.read.ensures)
+    header_bad (f t) (at t) (start t.before).requires t.two-size.result t.two-size.ensures.0 (omega arith) r.if-file-start.false
+    _ (rw c.in_default.is at r.read.ensures)
 
-returns-4 : tie.Need-returns-4
-returns-4 c =
-    let r = c.before.before in
+returns : tie.Need-returns
+returns c =
+    let r = c.before in
     let t = sized r in (
       omega arith,
       omega arith,
-      header_good (f t) (at t) (start t.before).requires t.two.result t.two.ensures.0 (omega arith) r.before.before.if2.false
-          _ (rw c.enum_told.given.1 at r.read.ensures),
+      header_good (f t) (at t) (start t.before).requires t.two-size.result t.two-size.ensures.0 (omega arith) r.if-file-start.false
+          _ (rw c.in-Strings.is at r.read.ensures),
     )
 
 pub header_at_spec : {M : Type 1} → statement M
 header_at_spec =
     tie.close
     (tie.spec
-    sub-if1
-    returns
-    two-requires
-    add_start
-    sub-if2
-    returns-2
-    add-end
-    sub_read
-    part-read-start
-    part-read-end
+    overflow_sub-file
+    returns-then-file-at-lt2
+    two-size-requires
+    overflow_add-start
+    overflow_sub-file-2
+    returns-then-file-start
+    overflow_add-end
+    slice_bounds-read-count
+    slice_bounds-read-start
+    slice_bounds-read-end
     read-requires
-    enum_told
-    enum-told-2
-    returns-3
-    returns-4)
+    enum_told-1
+    enum_told-in_default
+    returns-in_default
+    returns)

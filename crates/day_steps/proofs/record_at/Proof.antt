@@ -36,10 +36,10 @@ module _ (f : Bytes) (headers at : ℕ) (inside : at ≤ length f) (seven : 7 �
 
 -- ---- The places
 
-abbrev start : tie.Else1 → tie.Start
+abbrev start : tie.Else-file-at-lt7 → tie.Start
 start c = c.before.before
 
-module _ (c : tie.After-entry-at) where
+module _ (c : tie.After-entry_at-e) where
   abbrev f : Bytes
   f = (start c.before).args.file.now
 
@@ -49,41 +49,48 @@ module _ (c : tie.After-entry-at) where
   abbrev at : ℕ
   at = (start c.before).args.at
 
-sub-if1 : tie.Need-overflow-sub-if1
-sub-if1 c = search rules
+overflow_sub-file : tie.Need-overflow_sub-file
+overflow_sub-file c = search rules
+
+returns-then-file-at-lt7 : tie.Need-returns-then-file-at-lt7
+returns-then-file-at-lt7 c =
+    let s = c.before.before in
+    record_few s.args.file.now s.args.headers s.args.at s.requires.0 c.if-file-at-lt7.true
+
+entry_at-e-requires : tie.Need-entry_at-e-requires
+entry_at-e-requires c κs = search rules
+
+returns-then-file-e : tie.Need-returns-then-file-e
+returns-then-file-e c =
+    let t = c.before.before in
+    long (f t) (headers t) (at t) (start t.before).requires.0 t.if-file-at-lt7.false t.entry_at-e.result t.entry_at-e.ensures.0 c.if-file-e.true
+
+returns-then-headers-e : tie.Need-returns-then-headers-e
+returns-then-headers-e c =
+    let second = c.before.before in
+    let t = second.before.before in
+    unnamed (f t) (headers t) (at t) (start t.before).requires.0 t.if-file-at-lt7.false t.entry_at-e.result t.entry_at-e.ensures.0 second.if-file-e.false c.if-headers-e.true
+
+returns-then-e-gt64 : tie.Need-returns-then-e-gt64
+returns-then-e-gt64 c =
+    let second = c.before.before.before.before in
+    let t = second.before.before in
+    stretched (f t) (headers t) (at t) (start t.before).requires.0 t.if-file-at-lt7.false t.entry_at-e.result t.entry_at-e.ensures.0 second.if-file-e.false c.if-e-gt64.true
 
 returns : tie.Need-returns
 returns c =
-    let s = c.before.before in
-    record_few s.args.file.now s.args.headers s.args.at s.requires.0 c.if1.true
-
-entry-at-requires : tie.Need-entry-at-requires
-entry-at-requires c κs = search rules
-
-returns-2 : tie.Need-returns-2
-returns-2 c =
-    let t = c.before.before in
-    long (f t) (headers t) (at t) (start t.before).requires.0 t.before.if1.false t.entry_at.result t.entry_at.ensures.0 c.if2.true
-
-returns-3 : tie.Need-returns-3
-returns-3 c =
-    let second = c.before.before in
-    let t = second.before.before in
-    unnamed (f t) (headers t) (at t) (start t.before).requires.0 t.before.if1.false t.entry_at.result t.entry_at.ensures.0 second.if2.false c.if3.true
-
-returns-4 : tie.Need-returns-4
-returns-4 c =
-    let second = c.before.before.before.before in
-    let t = second.before.before in
-    stretched (f t) (headers t) (at t) (start t.before).requires.0 t.before.if1.false t.entry_at.result t.entry_at.ensures.0 second.if2.false c.if4.true
-
-returns-5 : tie.Need-returns-5
-returns-5 c =
     let third = c.before.before in
     let second = third.before.before in
     let t = second.before.before in
-    good (f t) (headers t) (at t) (start t.before).requires.0 t.before.if1.false t.entry_at.result t.entry_at.ensures.0 second.if2.false t.entry_at.ensures.1 third.if3.false c.if4.false
+    good (f t) (headers t) (at t) (start t.before).requires.0 t.if-file-at-lt7.false t.entry_at-e.result t.entry_at-e.ensures.0 second.if-file-e.false t.entry_at-e.ensures.1 third.if-headers-e.false c.if-e-gt64.false
 
 pub record_at_spec : {M : Type 1} → statement M
 record_at_spec =
-    tie.close (tie.spec sub-if1 returns entry-at-requires returns-2 returns-3 returns-4 returns-5)
+    tie.close (tie.spec
+    overflow_sub-file
+    returns-then-file-at-lt7
+    entry_at-e-requires
+    returns-then-file-e
+    returns-then-headers-e
+    returns-then-e-gt64
+    returns)

@@ -43,16 +43,16 @@ loop-again c =
     let l = (turn c).loop in
     let s = (turn c).before in
     let a = s.args in
-    let next : l.n + 1 ≡ a.b + (l.i + 1) = omega (arith, l.inv.1) in
-    let above : a.b ≤ l.n = omega (arith, l.inv.1) in
+    let next : l.n + 1 ≡ a.b + (l.i + 1) = omega (arith, l.invariant.1) in
+    let above : a.b ≤ l.n = omega (arith, l.invariant.1) in
     let m = a.m.now in
     let made = c.before.running-mask.ensures
     ∙ ap columns_of
-    (ap₂ ◌⊕◌ (ap (λ (n : ℕ). block_of (four_at m (4 * (n % 8)))) l.inv.1)
-    (l.inv.2 ∙ ap (λ (n : ℕ). two_to (steps a.b n) (block_of a.power)) l.inv.1)) in (
-      filled_more (mask m a.b a.power) l.r l.i c.before.running-mask.result l.inv.0 (omega arith) made,
+    (ap₂ ◌⊕◌ (ap (λ (n : ℕ). block_of (four_at m (4 * (n % 8)))) l.invariant.1)
+    (l.invariant.2 ∙ ap (λ (n : ℕ). two_to (steps a.b n) (block_of a.power)) l.invariant.1)) in (
+      filled_more (mask m a.b a.power) l.r l.i c.before.running-mask.result l.invariant.0 (omega arith) made,
       next,
-      ap block_of c.next_power.ensures ∙ next_from a.b l.n (block_of a.power) l.p (block_of_block a.power) s.pre.0 above l.inv.2,
+      ap block_of c.next_power.ensures ∙ next_from a.b l.n (block_of a.power) l.p (block_of_block a.power) s.pre.0 above l.invariant.2,
     )
 
 returns : tie.Need-returns invariant-loop decreases-loop

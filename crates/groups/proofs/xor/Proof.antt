@@ -30,7 +30,7 @@ loop-again : tie.Need-loop-preserved invariant-loop decreases-loop
 loop-again c =
     let l = (turn c).loop in
     let a = (turn c).before.args in
-    filled_more (sums a.a.now a.b.now) l.r l.i c.xor.result l.inv (omega arith) c.xor.ensures
+    filled_more (sums a.a.now a.b.now) l.r l.i c.xor.result l.invariant (omega arith) c.xor.ensures
 
 returns : tie.Need-returns invariant-loop decreases-loop
 returns c =

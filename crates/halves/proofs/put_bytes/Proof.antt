@@ -61,8 +61,8 @@ loop-again c =
     let l = (at_loop c).loop in
     let a = (start (at_loop c)).args in (
       omega arith,
-      front_more _ l.inv.1 (omega (arith, long (start (at_loop c)))) (c.byte-of.ensures ∙ sym (whole_bytes_at a.h.now l.i (omega arith))),
-      length-set l.s l.i c.byte-of.result ∙ l.inv.2,
+      front_more _ l.invariant.1 (omega (arith, long (start (at_loop c)))) (c.byte-of.ensures ∙ sym (whole_bytes_at a.h.now l.i (omega arith))),
+      length-set l.s l.i c.byte-of.result ∙ l.invariant.2,
     )
 
 same_length : tie.Need-same-length invariant-loop decreases-loop

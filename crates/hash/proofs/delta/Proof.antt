@@ -151,10 +151,10 @@ add-string-requires-2 c κs =
       (S₀ s).pre,
       (taken (begin s)).base.ensures,
       (multiplied (begin s)).multiples.ensures,
-      omega (arith, l.inv.1),
-      omega (arith, l.inv.1),
+      omega (arith, l.invariant.1),
+      omega (arith, l.invariant.1),
       simp (length-take, length-drop) (omega (arith, w.0, w.1, w.2)),
-      l.inv.5,
+      l.invariant.5,
     )
 
 loop-again : tie.Need-loop-preserved invariant-loop decreases-loop
@@ -163,10 +163,10 @@ loop-again c =
     let s = looped p in
     let l = s.loop in (
       (is_within p).1,
-      omega (arith, l.inv.1),
+      omega (arith, l.invariant.1),
       omega arith,
-      l.inv.3,
-      l.inv.4 ∙ turn (F s) (h s) (so s) l.at l.i l.left (from p) (to p) _ (omega (arith, l.inv.1, l.inv.2)) (omega arith) (is_entry p) c.add-string2.ensures.1,
+      l.invariant.3,
+      l.invariant.4 ∙ turn (F s) (h s) (so s) l.at l.i l.left (from p) (to p) _ (omega (arith, l.invariant.1, l.invariant.2)) (omega arith) (is_entry p) c.add-string2.ensures.1,
       c.add-string2.ensures.0,
     )
 

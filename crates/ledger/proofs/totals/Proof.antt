@@ -63,7 +63,7 @@ added-requires c κs =
     let i = asked c in
     let l = i.before in
     let a = (start l).args in
-    room a.key.now a.file.now (low l) l.loop.k l.loop.t l.loop.inv.1 (inside i) c.pause-at.result c.pause-at.ensures
+    room a.key.now a.file.now (low l) l.loop.k l.loop.t l.loop.invariant.1 (inside i) c.pause-at.result c.pause-at.ensures
 
 add-k : tie.Need-overflow-add-k invariant-loop decreases-loop
 add-k c = search rules
@@ -76,7 +76,7 @@ loop-again c =
     let i = asked c.before in
     let l = i.before in
     let ps = pauses l in
-    (omega arith, subst (Added ps (l.loop.k + 1)) (sym c.added.ensures) (one_added ps l.loop.k l.loop.t l.loop.inv.1 (omega (arith, many l, inside i)) c.before.pause-at.result c.before.pause-at.ensures))
+    (omega arith, subst (Added ps (l.loop.k + 1)) (sym c.added.ensures) (one_added ps l.loop.k l.loop.t l.loop.invariant.1 (omega (arith, many l, inside i)) c.before.pause-at.result c.before.pause-at.ensures))
 
 returns : tie.Need-returns invariant-loop decreases-loop
 returns c = let l = c.before in all_added (pauses l) l.loop.k l.loop.t l.loop.invariant.1 (omega (arith, many l, (start l).requires.1))

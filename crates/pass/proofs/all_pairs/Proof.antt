@@ -134,7 +134,7 @@ add-b c = omega (arith, (fits (took c)).few, number (took c).before.before)
 loop-less : tie.Need-loop-smaller invariant-loop decreases-loop
 loop-less c =
     let t : tie.After-taken invariant-loop decreases-loop = took c in
-    omega (arith, (fits t).from1, there t, t.before.before.loop.inv.0.replaced.same)
+    omega (arith, (fits t).from1, there t, t.before.before.loop.invariant.0.replaced.same)
 
 loop-again : tie.Need-loop-preserved invariant-loop decreases-loop
 loop-again c =
@@ -148,8 +148,8 @@ loop-again c =
     let is : size t ≡ 32 * n = omega arith in
     let same : length ys ≡ size t = pairs.kept.1.1.1.1.1.1.1.0 ∙ long t ∙ sym is in (
       passed_more (new_pair f a.pass a.sum) (summand f a.pass a.sum) a.s.now l.total l.s l.at l.b n (size t) pairs.result ys c.before.xor.result
-          l.inv.0 is (omega (arith, there t)) pairs.ensures.0 pairs.ensures.1 same c.before.xor.ensures,
-      c.power-after.ensures ∙ power_after_lem l.b n l.power (base_bytes a.k).L l.inv.0.from1 l.inv.1,
+          l.invariant.0 is (omega (arith, there t)) pairs.ensures.0 pairs.ensures.1 same c.before.xor.ensures,
+      c.power-after.ensures ∙ power_after_lem l.b n l.power (base_bytes a.k).L l.invariant.0.from1 l.invariant.1,
     )
 
 same_length : tie.Need-same-length invariant-loop decreases-loop

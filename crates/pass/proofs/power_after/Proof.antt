@@ -41,8 +41,8 @@ loop-again : tie.Need-loop-preserved invariant-loop decreases-loop
 loop-again c =
     let l = (turn c).loop in
     let a = (entry (turn c)).args in
-    let next : l.at + 1 ≡ a.b + (l.i + 1) = omega (arith, l.inv.1) in
-    (omega arith, next, c.next_power.ensures ∙ ap₂ next_power l.inv.1 l.inv.2 ∙ after_more a.b l.i a.power)
+    let next : l.at + 1 ≡ a.b + (l.i + 1) = omega (arith, l.invariant.1) in
+    (omega arith, next, c.next_power.ensures ∙ ap₂ next_power l.invariant.1 l.invariant.2 ∙ after_more a.b l.i a.power)
 
 returns : tie.Need-returns invariant-loop decreases-loop
 returns c =

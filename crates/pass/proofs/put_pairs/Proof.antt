@@ -86,7 +86,7 @@ add-i c = omega (arith, (room (turn (blocks (put c)))).1)
 loop-less : tie.Need-loop-smaller invariant-loop decreases-loop
 loop-less c =
     let t : tie.In-loop invariant-loop decreases-loop = turn (blocks (put c)) in
-    omega (arith, (room t).0, t.before.loop.inv.same)
+    omega (arith, (room t).0, t.before.loop.invariant.same)
 
 loop-again : tie.Need-loop-preserved invariant-loop decreases-loop
 loop-again c =
@@ -101,7 +101,7 @@ loop-again c =
     let made = p.ensures ∙ ap₂ ◌++◌ y.before.before.to_block.ensures y.to-block2.ensures
     ∙ ap (λ (k : ℕ). block_of (entry a.a.now k) ++ block_of (entry a.b.now k)) this in
     let long : length p.last.0 ≡ size = p.kept.0 ∙ simp (length-take, length-drop) (omega (arith, (room t).0)) in
-    replaced_one (two a.a.now a.b.now) a.part.now l.part l.at l.i size p.last.0 l.inv is (omega (arith, (room t).0)) made long
+    replaced_one (two a.a.now a.b.now) a.part.now l.part l.at l.i size p.last.0 l.invariant is (omega (arith, (room t).0)) made long
 
 same_length : tie.Need-same-length invariant-loop decreases-loop
 same_length c = c.before.loop.invariant.same

@@ -69,10 +69,10 @@ module _ (c : tie.After-known-told3 invariant-loop decreases-loop) where
   last : at_end.loop.i ≡ 3
   last = omega arith
 
-  fourth : take (to - from) (drop from (h (of_read at_end))) ≡ get_or at_end.loop.inv.1.strings 3 []
+  fourth : take (to - from) (drop from (h (of_read at_end))) ≡ get_or at_end.loop.invariant.1.strings 3 []
   fourth =
-      own_part (h (of_read at_end)) (low (of_read at_end)) at_end.loop.i at_end.loop.at (omega arith) at_end.loop.inv.1 from to is_entry
-      ∙ ap (λ (k : ℕ). get_or at_end.loop.inv.1.strings k []) last
+      own_part (h (of_read at_end)) (low (of_read at_end)) at_end.loop.i at_end.loop.at (omega arith) at_end.loop.invariant.1 from to is_entry
+      ∙ ap (λ (k : ℕ). get_or at_end.loop.invariant.1.strings k []) last
 
 read-requires : tie.Need-read-requires invariant-loop decreases-loop
 read-requires c κs = search rules

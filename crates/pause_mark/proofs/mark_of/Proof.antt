@@ -41,7 +41,7 @@ returns : tie.Need-returns invariant-loop decreases-loop
 returns c =
     let r = c.before in
     let l = turn r.before in
-    found_row (name l) l.loop.i l.loop.inv.1 (omega arith) (sym r.is-rest.ensures ∙ c.if1.true)
+    found_row (name l) l.loop.i l.loop.invariant.1 (omega arith) (sym r.is-rest.ensures ∙ c.if1.true)
 
 add-i : tie.Need-overflow-add-i invariant-loop decreases-loop
 add-i c = search rules
@@ -53,7 +53,7 @@ loop-again : tie.Need-loop-preserved invariant-loop decreases-loop
 loop-again c =
     let r = c.before in
     let l = turn r.before in
-    (omega arith, next_row (name l) l.loop.i l.loop.inv.1 (omega arith) (sym r.is-rest.ensures ∙ c.if1.false))
+    (omega arith, next_row (name l) l.loop.i l.loop.invariant.1 (omega arith) (sym r.is-rest.ensures ∙ c.if1.false))
 
 returns-2 : tie.Need-returns-2 invariant-loop decreases-loop
 returns-2 c = let l = c.before in no_row (name l) l.loop.i l.loop.invariant.1 (omega arith)

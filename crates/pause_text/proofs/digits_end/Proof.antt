@@ -29,7 +29,7 @@ returns : tie.Need-returns invariant-loop decreases-loop
 returns c =
     let l = turn c.before in
     let t = l.before.args.text.now in
-    (omega (arith, l.loop.inv.1, none_here t l.loop.at (omega arith) (below_digits (get_or t l.loop.at 0) c.if1.true)), omega arith)
+    (omega (arith, l.loop.invariant.1, none_here t l.loop.at (omega arith) (below_digits (get_or t l.loop.at 0) c.if1.true)), omega arith)
 
 shared-slice-read-if2 : tie.Need-shared-slice-read-if2 invariant-loop decreases-loop
 shared-slice-read-if2 c = search rules
@@ -38,7 +38,7 @@ returns-2 : tie.Need-returns-2 invariant-loop decreases-loop
 returns-2 c =
     let l = turn c.before.before.before in
     let t = l.before.args.text.now in
-    (omega (arith, l.loop.inv.1, none_here t l.loop.at (omega arith) (above_digits (get_or t l.loop.at 0) c.if2.true)), omega arith)
+    (omega (arith, l.loop.invariant.1, none_here t l.loop.at (omega arith) (above_digits (get_or t l.loop.at 0) c.if2.true)), omega arith)
 
 add_at : tie.Need-overflow-add-at invariant-loop decreases-loop
 add_at c = search rules
@@ -50,7 +50,7 @@ loop-again : tie.Need-loop-preserved invariant-loop decreases-loop
 loop-again c =
     let l = turn c.before.before.before in
     let t = l.before.args.text.now in
-    (omega arith, omega (arith, l.loop.inv.1, digit_here t l.loop.at (omega arith) (bounds_digit (get_or t l.loop.at 0) c.before.before.if1.false c.if2.false)))
+    (omega arith, omega (arith, l.loop.invariant.1, digit_here t l.loop.at (omega arith) (bounds_digit (get_or t l.loop.at 0) c.before.before.if1.false c.if2.false)))
 
 returns-3 : tie.Need-returns-3 invariant-loop decreases-loop
 returns-3 c =

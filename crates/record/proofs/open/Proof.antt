@@ -50,7 +50,7 @@ returns c =
     sym (opening_refused a.key.now a.header.now a.stretch.0 a.sealed.now a.out.now n.result n.ensures c.if1.true)
 
 key-of-requires : tie.Need-key-of-requires
-key-of-requires c κs = (fits c).common.key-long
+key-of-requires c κs = (fits c).common.key_long
 
 bits-requires : tie.Need-bits-requires
 bits-requires c κs = (fits c.before).common.short

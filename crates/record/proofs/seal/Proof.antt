@@ -36,7 +36,7 @@ returns c =
     sym (sealing_refused a.key.now a.header.now a.stretch.0 a.text.now a.out.now n.result n.ensures c.if1.true)
 
 key-of-requires : tie.Need-key-of-requires
-key-of-requires c κs = (fits c).common.key-long
+key-of-requires c κs = (fits c).common.key_long
 
 bits-requires : tie.Need-bits-requires
 bits-requires c κs = (fits c.before).common.short

@@ -43,9 +43,9 @@ is_term c =
     let s = start (looped c) in
     let a = s.args in
     let l = (looped c).loop in
-    let x = c.before.load.ensures ∙ ap (λ (n : ℕ). take 16 (drop n a.t.now)) l.inv.1 in
+    let x = c.before.load.ensures ∙ ap (λ (n : ℕ). take 16 (drop n a.t.now)) l.invariant.1 in
     ap (AES4 (k0 (base a.k)))
-    (c.masked.ensures ∙ masked_is a.k a.m.now s.pre.1 l.j l.power l.inv.5 (block_of a.mask) x)
+    (c.masked.ensures ∙ masked_is a.k a.m.now s.pre.1 l.j l.power l.invariant.5 (block_of a.mask) x)
 
 loop-holds : tie.Need-loop-init invariant-loop decreases-loop
 unfolding sum
@@ -73,14 +73,14 @@ loop-again c =
     let a = (start s).args in
     let before = so_far (base a.k) a.g.now a.s in (
       omega arith,
-      omega (arith, l.inv.1),
+      omega (arith, l.invariant.1),
       omega arith,
       added.add-block.ensures.0,
       added.add-block.ensures.1
-          ∙ ap₂ ◌⊕◌ l.inv.4 (is_term y)
+          ∙ ap₂ ◌⊕◌ l.invariant.4 (is_term y)
           ∙ ⊕_assoc before (sum (l.j - 1) (term s)) (term s l.j)
-          ∙ ap (λ (S : Bytes). before ⊕ S) (sym (sum_more l.j (term s) l.inv.0)),
-      c.next_power.ensures ∙ next l.j l.power (base_bytes a.k).L l.inv.0 l.inv.5,
+          ∙ ap (λ (S : Bytes). before ⊕ S) (sym (sum_more l.j (term s) l.invariant.0)),
+      c.next_power.ensures ∙ next l.j l.power (base_bytes a.k).L l.invariant.0 l.invariant.5,
     )
 
 returns : tie.Need-returns invariant-loop decreases-loop

@@ -35,7 +35,7 @@ loop-again c =
     let keys = keys_of (turn c).before.keys0.result in
     let e = c.before in
     let is = e.aes4.ensures ∙ ap (λ (X : Bytes). AES4 keys X) e.before.to_block.ensures in
-    (omega arith, c.xor.ensures ∙ ap₂ ◌⊕◌ l.inv.1 is ∙ sym (added_more keys (start (turn c)).args.g.now l.i))
+    (omega arith, c.xor.ensures ∙ ap₂ ◌⊕◌ l.invariant.1 is ∙ sym (added_more keys (start (turn c)).args.g.now l.i))
 
 returns : tie.Need-returns invariant-loop decreases-loop
 returns c =
