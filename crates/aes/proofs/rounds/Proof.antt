@@ -54,7 +54,7 @@ loop-again c =
     let some : 1 ≤ length keys = (start l.before).pre in
     let in_keys : i < length (keys_of keys) = omega (arith, keys_length keys some) in (
       c.aesenc.ensures
-          ∙ ap₂ aesenc l.loop.invariant.0 (sym (key_at keys i l.loop.invariant.1))
+          ∙ ap₂ aesenc l.loop.inv.0 (sym (key_at keys i l.loop.inv.1))
           ∙ sym (rounds_more i (keys_of keys) (crossed_bytes []) (crossed_bytes l.before.crossed.result) (omega arith) in_keys),
       omega arith,
       omega arith,

@@ -62,17 +62,17 @@ returns c =
     let three = four.before in
     let two = three.before in
     let start = two.before in
-    let x = start.args.t1 in
+    let x = start.args.x in
     let X = block_of x in
     let p = block_of_block x in
-    let is : x ≡ columns_of X = sym (block_columns (array_digits w32 4 _ _ start.well-formed.0)) in
+    let is : x ≡ columns_of X = sym (block_columns (array_digits w32 4 _ _ start.well_formed.0)) in
     let one : x ≡ columns_of (1 · X) = is ∙ ap columns_of (sym (times_one X p)) in
-    let two_is = even X p 2 (omega arith) refl x two.double.result one two.double.ensures in
-    let three-is = odd X p 2 (omega arith) refl two.double.result x three.xor.result two_is is three.xor.ensures in
-    let four_is = even X p 4 (omega arith) refl two.double.result four.double2.result two_is four.double2.ensures in
-    let five-is = odd X p 4 (omega arith) refl four.double2.result x five.xor2.result four_is is five.xor2.ensures in
-    let six-is = even X p 6 (omega arith) refl three.xor.result six.double3.result three-is six.double3.ensures in
-    let seven_is = odd X p 6 (omega arith) refl six.double3.result x c.xor3.result six-is is c.xor3.ensures in
+    let two_is = even X p 2 (omega arith) refl x two.double-two.result one two.double-two.ensures in
+    let three-is = odd X p 2 (omega arith) refl two.double-two.result x three.xor-three.result two_is is three.xor-three.ensures in
+    let four_is = even X p 4 (omega arith) refl two.double-two.result four.double-four.result two_is four.double-four.ensures in
+    let five-is = odd X p 4 (omega arith) refl four.double-four.result x five.xor-five.result four_is is five.xor-five.ensures in
+    let six-is = even X p 6 (omega arith) refl three.xor-three.result six.double-six.result three-is six.double-six.ensures in
+    let seven_is = odd X p 6 (omega arith) refl six.double-six.result x c.xor-seven.result six-is is c.xor-seven.ensures in
     all X p x _ _ _ _ _ _ one two_is three-is four_is five-is six-is seven_is
 
 pub multiples_spec : {M : Type 1} → statement M

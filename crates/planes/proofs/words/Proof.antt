@@ -33,8 +33,8 @@ loop-again c =
     let v = c.before.before.joined2 in
     let x = c.before.joined3 in
     let y = c.joined4 in (
-      omega (arith, k.invariant.0),
-      four_words t.before.args.g.now k.r k.i u.result v.result x.result y.result (omega arith) k.invariant.1
+      omega (arith, k.inv.0),
+      four_words t.before.args.g.now k.r k.i u.result v.result x.result y.result (omega arith) k.inv.1
           u.ensures v.ensures x.ensures y.ensures,
     )
 

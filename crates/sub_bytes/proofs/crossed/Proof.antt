@@ -5,16 +5,16 @@ use Rattle.sub_bytes.proofs.crossed.Statement.{statement}
 use Rattle.sub_bytes.proofs.crossed.Tie as tie
 
 -- the exchanges of the first level
-abbrev firsts : tie.After-exchanged4 → tie.After-exchanged2
+abbrev firsts : tie.After-exchanged-v → tie.After-exchanged-q
 firsts c = c.before.before
 
 returns : tie.Need-returns
 returns c =
-    let p = (firsts c).before.exchanged in
-    let q = (firsts c).exchanged2 in
-    let u = c.before.exchanged3 in
-    let v = c.exchanged4 in
-    turned_over (firsts c).before.before.args.t1 p.result.a p.result.b q.result.a q.result.b
+    let p = (firsts c).exchanged-p in
+    let q = (firsts c).exchanged-q in
+    let u = c.exchanged-u in
+    let v = c.exchanged-v in
+    turned_over (firsts c).args.s p.result.a p.result.b q.result.a q.result.b
     u.result.a u.result.b v.result.a v.result.b
     p.ensures.0 p.ensures.1 q.ensures.0 q.ensures.1
     u.ensures.0 u.ensures.1 v.ensures.0 v.ensures.1

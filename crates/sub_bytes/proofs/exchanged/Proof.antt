@@ -13,4 +13,7 @@ returns c =
     )
 
 pub exchanged_spec : {M : Type 1} → statement M
-exchanged_spec = tie.close (tie.spec (λ c. search rules) (λ c. search rules) returns)
+exchanged_spec = tie.close (tie.spec
+    (λ c. search rules)
+    (λ c. search rules)
+    returns)

@@ -7,4 +7,5 @@ returns : tie.Need-returns
 returns c = joined_word c.args.a c.args.b c.ranges.a.fits
 
 pub joined_spec : {M : Type 1} → statement M
-joined_spec = tie.close (tie.spec returns)
+joined_spec = tie.close (tie.spec
+    returns)

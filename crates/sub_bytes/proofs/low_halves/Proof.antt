@@ -5,7 +5,7 @@ use Rattle.sub_bytes.proofs.low_halves.Statement.{statement}
 use Rattle.sub_bytes.proofs.low_halves.Tie as tie
 
 returns : tie.Need-returns
-returns c = low_halves c.args.t1
+returns c = low_halves c.args.q
 
 pub low_halves_spec : {M : Type 1} → statement M
 low_halves_spec =

@@ -12,13 +12,18 @@ use Rattle.sub_bytes.proofs.sub_bytes.Tie as tie
 returns : tie.Need-returns
 unfolding crossed_bytes
 returns c =
-    let sub = c.before.before.circuit in
-    let q = c.before.before.before.planes in
+    let sub = c.circuit-r in
+    let q = c.planes-q in
     c.words.ensures
-    ∙ c.before.low_halves.ensures
+    ∙ c.low_halves-h.ensures
     ∙ lanes_sub_bytes q.result sub.result sub.ensures
     ∙ ap (λ (l : List ℕ). SubBytes (plane_bytes l)) q.ensures
 
 pub sub_bytes_spec : {M : Type 1} → statement M
 sub_bytes_spec =
-    tie.close (tie.spec (λ c κs. search rules) (λ c κs. search rules) (λ c κs. search rules) (λ c κs. search rules) returns)
+    tie.close (tie.spec
+    (λ c κs. search rules)
+    (λ c κs. search rules)
+    (λ c κs. search rules)
+    (λ c κs. search rules)
+    returns)
