@@ -1,11 +1,10 @@
 -- What a function is told of a parameter that is a key: its parts are blocks. And what it takes out of a key fits together.
-use mathlib.Core.List.{List, map, map-id}
-use mathlib.Core.Path.{◌≡◌, subst, ap, sym, ◌∙◌}
+use mathlib.Core.List.{List}
+use mathlib.Core.Path.{◌≡◌, ap, sym, ◌∙◌}
 use Prim.Native.Nat.{ℕ}
 use mir.Val.{Val}
 use denote.Laws.{Is}
 use denote.Struct.Declared.{row}
-use Rattle.paper.specs.Strings.{Block}
 use Rattle.paper.specs.Figure6 as figure6
 use Rattle.laws.proofs.KeyBlocks.{KeyBytes}
 use Rattle.block.proofs.Arrays.{array_bytes}
@@ -17,16 +16,13 @@ use Rattle.key.specs.declared.Key.{Key}
 use Rattle.key.specs.Meaning.{blocks}
 use Rattle.key.specs.contracts.Key as key
 
-field_bytes : (X : List ℕ) → Block (map (λ (x : ℕ). x) X) → Block X
-field_bytes X p = subst (λ (l : List ℕ). Block l) (map-id X) p
-
 pub key_bytes : (k : Key) (vs : List Val) → Is (row key.the_type) k vs → KeyBytes (blocks k)
 key_bytes k vs p =
     let g = p.1.1 in
     record {
-      I = field_bytes k.i (array_bytes 16 _ _ g.0);
-      J = field_bytes k.j (array_bytes 16 _ _ g.1.0);
-      L = field_bytes k.l (array_bytes 16 _ _ g.1.1.0);
+      I = array_bytes 16 _ _ g.0;
+      J = array_bytes 16 _ _ g.1.0;
+      L = array_bytes 16 _ _ g.1.1.0;
     }
 
 -- a base that was taken out of k has its blocks

@@ -11,29 +11,29 @@ use Rattle.aes.proofs.aesenc.Statement.{statement}
 use Rattle.aes.proofs.aesenc.Tie as tie
 
 -- the places where words 2 and 0 are shifted, and SubBytes
-abbrev shifted2 : tie.After-xor → tie.After-shifted3
+abbrev shifted2 : tie.After-xor → tie.After-shifted-c
 shifted2 c = c.before.before.before
 
-abbrev shifted0 : tie.After-xor → tie.After-shifted
+abbrev shifted0 : tie.After-xor → tie.After-shifted-a
 shifted0 c = (shifted2 c).before.before
 
-abbrev substituted : tie.After-xor → tie.After-sub-bytes
+abbrev substituted : tie.After-xor → tie.After-sub_bytes-t
 substituted c = (shifted0 c).before
 
 returns : tie.Need-returns
 unfolding aesenc
 returns c =
-    let k = (substituted c).before.args.k in
-    let t = (substituted c).sub-bytes in
+    let k = (substituted c).args.k in
+    let t = (substituted c).sub_bytes-t in
     let m = c.before in
-    let w0 = (shifted0 c).shifted in
-    let w1 = (shifted2 c).before.shifted2 in
-    let w2 = (shifted2 c).shifted3 in
-    let w3 = m.before.shifted4 in
+    let w0 = (shifted0 c).shifted-a in
+    let w1 = (shifted2 c).shifted-b in
+    let w2 = (shifted2 c).shifted-c in
+    let w3 = m.shifted-d in
     ap crossed_bytes c.xor.ensures
-    ∙ key_added m.mixed.result k
+    ∙ key_added m.mixed-m.result k
     ∙ ap (λ (S : Bytes). S ⊕ crossed_bytes k)
-    (m.mixed.ensures
+    (m.mixed-m.ensures
     ∙ ap MixColumns
     (shifted_bytes t.result w0.result w1.result w2.result w3.result w0.ensures w1.ensures w2.ensures w3.ensures
     ∙ ap ShiftRows t.ensures))

@@ -15,11 +15,15 @@ returns c =
     let s = at-rounds.before.before in
     let a = s.args in
     let K = keys_of a.k.now in
-    let text = made (array_bytes 16 _ _ s.well-formed.1.0) at-rounds.before.of-block.ensures in
+    let text = made (array_bytes 16 _ _ s.well_formed.1.0) at-rounds.of_block-text.ensures in
     c.to_block.ensures
-    ∙ made (AES_keys a.k.now (block_of_block at-rounds.before.of-block.result)) at-rounds.rounds.ensures
+    ∙ made (AES_keys a.k.now (block_of_block at-rounds.of_block-text.result)) at-rounds.rounds-s.ensures
     ∙ ap (AES K) text
 
 pub rounds_of_bytes_spec : {M : Type 1} → statement M
 rounds_of_bytes_spec =
-    tie.close (tie.spec (λ c κs. search rules) (λ c κs. search rules) (λ c κs. search rules) returns)
+    tie.close (tie.spec
+    (λ c κs. search rules)
+    (λ c κs. search rules)
+    (λ c κs. search rules)
+    returns)

@@ -9,9 +9,14 @@ returns c =
     let third = c.before in
     let second = third.before in
     let first = second.before in
-    turned_rows first.before.args.x first.picked.result second.picked2.result third.picked3.result c.picked4.result
-    first.picked.ensures second.picked2.ensures third.picked3.ensures c.picked4.ensures
+    turned_rows first.args.x first.picked-a.result second.picked-b.result third.picked-c.result c.picked.result
+    first.picked-a.ensures second.picked-b.ensures third.picked-c.ensures c.picked.ensures
 
 pub shifted_spec : {M : Type 1} → statement M
 shifted_spec =
-    tie.close (tie.spec (λ c κs. search rules) (λ c κs. search rules) (λ c κs. search rules) (λ c κs. search rules) returns)
+    tie.close (tie.spec
+    (λ c κs. search rules)
+    (λ c κs. search rules)
+    (λ c κs. search rules)
+    (λ c κs. search rules)
+    returns)

@@ -23,7 +23,7 @@ wrote z n w out last e p q =
     let o : last ≡ w ++ drop (length w) out = q ∙ ap (λ (k : ℕ). w ++ drop k out) all in
     λ i. record { number = e i; size = p i; output = o i }
 
-abbrev start : tie.After-settled → tie.Start
+abbrev start : tie.After-settled-number → tie.Start
 start c = c.before.before.before.before.before.before
 
 module _ (s : tie.Start) where
@@ -34,47 +34,53 @@ module _ (s : tie.Start) where
   header = log_header s.args.nonce.now s.args.host.now s.args.collector.now s.args.locale.now
 
 -- where 0 is settled, the items fit and the output has room
-accepted : (c : tie.Else1) → (long (start c.before) ≡ false) × (length (header (start c.before)) ≤ length (start c.before).args.out.now)
+accepted : (c : tie.Else-number-ne0) → (long (start c.before) ≡ false) × (length (header (start c.before)) ≤ length (start c.before).args.out.now)
 accepted c =
     let a = (start c.before).args in
-    accepts a.nonce.now a.host.now a.collector.now a.locale.now c.before.settled.result _ c.before.settled.ensures c.if1.false
+    accepts a.nonce.now a.host.now a.collector.now a.locale.now c.settled-number.result _ c.settled-number.ensures c.if-number-ne0.false
 
 -- and the header was put
-abbrev put : tie.After-slice-known2 → tie.After-put-log
+abbrev put : tie.After-slice_known-2-1 → tie.After-put_log
 put c = c.before.before
 
-abbrev passed : tie.After-put-log → tie.Else1
+abbrev passed : tie.After-put_log → tie.Else-number-ne0
 passed c = c.before.before
 
-settled-requires : tie.Need-settled-requires
-settled-requires c κs = search rules
+settled-number-requires : tie.Need-settled-number-requires
+settled-number-requires c κs = search rules
 
-returns : tie.Need-returns
-returns c =
+returns-then-number-ne0 : tie.Need-returns-then-number-ne0
+returns-then-number-ne0 c =
     let a = (start c.before).args in
-    sym (refuses a.nonce.now a.host.now a.collector.now a.locale.now c.before.settled.result a.out.now c.before.settled.ensures c.if1.true)
+    sym (refuses a.nonce.now a.host.now a.collector.now a.locale.now c.settled-number.result a.out.now c.settled-number.ensures c.if-number-ne0.true)
 
-put-log-requires : tie.Need-put-log-requires
-put-log-requires c κs = (accepted c.before).1
+put_log-requires : tie.Need-put_log-requires
+put_log-requires c κs = (accepted c.before).1
 
-log-length-requires : tie.Need-log-length-requires
-log-length-requires c κs =
+log_length-length-requires : tie.Need-log_length-length-requires
+log_length-length-requires c κs =
     let p = passed (put c) in
     let a = (start p.before).args in
     items_fit a.nonce.now a.host.now a.collector.now a.locale.now (accepted p).0
 
-same_length : tie.Need-same-length
-same_length c = search rules
+shape_of-out : tie.Need-shape_of-out
+shape_of-out c = search rules
 
-returns-2 : tie.Need-returns-2
-returns-2 c =
-    let written = (put c.before).put-log in
+returns : tie.Need-returns
+returns c =
+    let written = (put c.before).put_log in
     let p = passed (put c.before) in
     let a = (start p.before).args in
-    wrote p.before.settled.result c.log-length.result (header (start p.before)) a.out.now written.last.1.1.1.1.0 p.if1.left c.log-length.ensures written.ensures
+    wrote p.settled-number.result c.log_length-length.result (header (start p.before)) a.out.now written.new.out p.if-number-ne0.left c.log_length-length.ensures written.ensures
     ∙ sym (builds_0 a.nonce.now a.host.now a.collector.now a.locale.now (accepted p).0 a.out.now (accepted p).1)
 
 pub log_header_spec : {M : Type 1} → statement M
 log_header_spec =
     tie.close
-    (tie.spec settled-requires returns put-log-requires log-length-requires same_length returns-2)
+    (tie.spec
+    settled-number-requires
+    returns-then-number-ne0
+    put_log-requires
+    log_length-length-requires
+    shape_of-out
+    returns)

@@ -11,26 +11,26 @@ start c = c.before.before.before.before.before
 room-requires : tie.Need-room-requires
 room-requires c κs = search rules
 
-add-result : tie.Need-overflow-add-result
-add-result c = search rules
+overflow_add-result : tie.Need-overflow_add-result
+overflow_add-result c = search rules
 
 room-requires-2 : tie.Need-room-requires-2
 room-requires-2 c κs = search rules
 
-add-result-2 : tie.Need-overflow-add-result-2
-add-result-2 c = search rules
+overflow_add-result-2 : tie.Need-overflow_add-result-2
+overflow_add-result-2 c = search rules
 
 room-requires-3 : tie.Need-room-requires-3
 room-requires-3 c κs = search rules
 
-add-result-3 : tie.Need-overflow-add-result-3
-add-result-3 c = search rules
+overflow_add-result-3 : tie.Need-overflow_add-result-3
+overflow_add-result-3 c = search rules
 
 room-requires-4 : tie.Need-room-requires-4
 room-requires-4 c κs = search rules
 
-add-result-4 : tie.Need-overflow-add-result-4
-add-result-4 c = search rules
+overflow_add-result-4 : tie.Need-overflow_add-result-4
+overflow_add-result-4 c = search rules
 
 returns : tie.Need-returns
 returns c =
@@ -42,11 +42,11 @@ log_length_spec =
     tie.close
     (tie.spec
     room-requires
-    add-result
+    overflow_add-result
     room-requires-2
-    add-result-2
+    overflow_add-result-2
     room-requires-3
-    add-result-3
+    overflow_add-result-3
     room-requires-4
-    add-result-4
+    overflow_add-result-4
     returns)

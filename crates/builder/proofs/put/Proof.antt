@@ -23,29 +23,29 @@ together s out behind last at p two e =
     ∙ placed_then at (digits 256 2 (length s)) s out (omega arith)
     ∙ ap (λ (w : Bytes). placed at w out) (sym (write_one s))
 
-abbrev two : tie.After-copy → tie.After-put-two
+abbrev two : tie.After-copy → tie.After-put_two
 two c = c.before.before.before.before
 
-abbrev start : tie.After-put-two → tie.Start
+abbrev start : tie.After-put_two → tie.Start
 start c = c.before.before.before.before
 
-put-two-requires : tie.Need-put-two-requires
-put-two-requires c κs = search rules
+put_two-requires : tie.Need-put_two-requires
+put_two-requires c κs = search rules
 
-add-copy : tie.Need-overflow-add-copy
-add-copy c = search rules
+overflow_add-at : tie.Need-overflow_add-at
+overflow_add-at c = search rules
 
 copy-requires : tie.Need-copy-requires
 copy-requires c κs = search rules
 
-add-result : tie.Need-overflow-add-result
-add-result c = search rules
+overflow_add-result : tie.Need-overflow_add-result
+overflow_add-result c = search rules
 
-add-result-2 : tie.Need-overflow-add-result-2
-add-result-2 c = search rules
+overflow_add-result-2 : tie.Need-overflow_add-result-2
+overflow_add-result-2 c = search rules
 
-same_length : tie.Need-same-length
-same_length c = search rules
+shape_of-out : tie.Need-shape_of-out
+shape_of-out c = search rules
 
 returns : tie.Need-returns
 returns c =
@@ -53,9 +53,16 @@ returns c =
     let put = two copied in
     let s = start put in
     let a = s.args in
-    (omega (arith, one_long a.s.now), together a.s.now a.out.now put.put_two.last.0 copied.copy.new.0 a.at s.pre put.put_two.ensures copied.copy.ensures)
+    (omega (arith, one_long a.s.now), together a.s.now a.out.now put.put_two.new.out copied.copy.new.s a.at s.requires put.put_two.ensures copied.copy.ensures)
 
 pub put_spec : {M : Type 1} → statement M
 put_spec =
     tie.close
-    (tie.spec put-two-requires add-copy copy-requires add-result add-result-2 same_length returns)
+    (tie.spec
+    put_two-requires
+    overflow_add-at
+    copy-requires
+    overflow_add-result
+    overflow_add-result-2
+    shape_of-out
+    returns)

@@ -35,19 +35,19 @@ module _ (nonce host collector locale out : Bytes) (fits : length (log_header no
 
 -- ---- The places: each call, from the one after it
 
-abbrev entered : tie.After-slice-known → tie.Start
+abbrev entered : tie.After-slice_known-1 → tie.Start
 entered c = c.before.before.before.before.before
 
-abbrev start : tie.After-put → tie.Start
+abbrev start : tie.After-put-second → tie.Start
 start c = entered c.before.before
 
-abbrev first : tie.After-put2 → tie.After-put
+abbrev first : tie.After-put-third → tie.After-put-second
 first c = c.before.before.before.before
 
-abbrev second : tie.After-put3 → tie.After-put2
+abbrev second : tie.After-put-fourth → tie.After-put-third
 second c = c.before.before.before.before
 
-abbrev third : tie.After-put4 → tie.After-put3
+abbrev third : tie.After-put → tie.After-put-fourth
 third c = c.before.before.before.before
 
 -- the four strings and the count fit
@@ -55,43 +55,43 @@ room : (s : tie.Start) → 1 + length (write_strings (s.args.nonce.now ∷ [])) 
 room s = omega (arith, log_long s.args.nonce.now s.args.host.now s.args.collector.now s.args.locale.now)
 
 -- no call changes the output's length
-long1 : (c : tie.After-put) → length c.put.new.0 ≡ length (start c).args.out.now
-long1 c = c.put.auto.0 ∙ simp length-set
+long1 : (c : tie.After-put-second) → length c.put-second.new.out ≡ length (start c).args.out.now
+long1 c = c.put-second.auto.out ∙ simp length-set
 
-long2 : (c : tie.After-put2) → length c.put2.new.0 ≡ length (start (first c)).args.out.now
-long2 c = c.put2.auto.0 ∙ long1 (first c)
+long2 : (c : tie.After-put-third) → length c.put-third.new.out ≡ length (start (first c)).args.out.now
+long2 c = c.put-third.auto.out ∙ long1 (first c)
 
-long3 : (c : tie.After-put3) → length c.put3.new.0 ≡ length (start (first (second c))).args.out.now
-long3 c = c.put3.auto.0 ∙ long2 (second c)
+long3 : (c : tie.After-put-fourth) → length c.put-fourth.new.out ≡ length (start (first (second c))).args.out.now
+long3 c = c.put-fourth.auto.out ∙ long2 (second c)
 
-slice-write-out : tie.Need-slice-write-out
-slice-write-out c = omega (arith, room (entered c))
+bounds-out-0 : tie.Need-bounds-out-0
+bounds-out-0 c = omega (arith, room (entered c))
 
-put-requires : tie.Need-put-requires
-put-requires c κs =
+put-second-requires : tie.Need-put-second-requires
+put-second-requires c κs =
     let s = entered c.before in
     simp length-set (omega (arith, room s, one_long s.args.nonce.now))
 
-put-requires-2 : tie.Need-put-requires-2
-put-requires-2 c κs =
+put-third-requires : tie.Need-put-third-requires
+put-third-requires c κs =
     let one = c.before.before.before in
     let s = start one in
     omega (arith, room s, one_long s.args.host.now, long1 one)
 
-put-requires-3 : tie.Need-put-requires-3
-put-requires-3 c κs =
+put-fourth-requires : tie.Need-put-fourth-requires
+put-fourth-requires c κs =
     let two = c.before.before.before in
     let s = start (first two) in
     omega (arith, room s, one_long s.args.collector.now, long2 two)
 
-put-requires-4 : tie.Need-put-requires-4
-put-requires-4 c κs =
+put-requires : tie.Need-put-requires
+put-requires c κs =
     let three = c.before.before.before in
     let s = start (first (second three)) in
     omega (arith, room s, one_long s.args.locale.now, long3 three)
 
-same_length : tie.Need-same-length
-same_length c = let four = c.before.before in four.put4.auto.0 ∙ long3 (third four)
+shape_of-out : tie.Need-shape_of-out
+shape_of-out c = let four = c.before.before in four.put.auto.out ∙ long3 (third four)
 
 returns : tie.Need-returns
 returns c =
@@ -101,13 +101,20 @@ returns c =
     let one = first two in
     let s = start one in
     let a = s.args in
-    together a.nonce.now a.host.now a.collector.now a.locale.now a.out.now s.pre
-    one.put.last.0 two.put2.last.0 three.put3.last.0 four.put4.new.0
-    one.put.result two.put2.result three.put3.result
-    one.put.ensures.1 one.put.ensures.0 two.put2.ensures.1 two.put2.ensures.0
-    three.put3.ensures.1 three.put3.ensures.0 four.put4.ensures.1
+    together a.nonce.now a.host.now a.collector.now a.locale.now a.out.now s.requires
+    one.put-second.new.out two.put-third.new.out three.put-fourth.new.out four.put.new.out
+    one.put-second.result two.put-third.result three.put-fourth.result
+    one.put-second.ensures.1 one.put-second.ensures.0 two.put-third.ensures.1 two.put-third.ensures.0
+    three.put-fourth.ensures.1 three.put-fourth.ensures.0 four.put.ensures.1
 
 pub put_log_spec : {M : Type 1} → statement M
 put_log_spec =
     tie.close
-    (tie.spec slice-write-out put-requires put-requires-2 put-requires-3 put-requires-4 same_length returns)
+    (tie.spec
+    bounds-out-0
+    put-second-requires
+    put-third-requires
+    put-fourth-requires
+    put-requires
+    shape_of-out
+    returns)

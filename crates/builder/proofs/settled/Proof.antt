@@ -14,7 +14,7 @@ use Rattle.builder.proofs.Answers.{settles}
 use Rattle.builder.proofs.settled.Statement.{statement}
 use Rattle.builder.proofs.settled.Tie as tie
 
-abbrev start : tie.After-too-long → tie.Start
+abbrev start : tie.After-too_long → tie.Start
 start c = c.before.before.before.before.before
 
 module _ (s : tie.Start) where
@@ -30,30 +30,35 @@ module _ (s : tie.Start) where
   answer = settles s.args.nonce.now s.args.host.now s.args.collector.now s.args.locale.now s.args.bytes
 
 -- no item is too long
-short : (c : tie.Else1) → long (start c.before) ≡ false
-short c = sym c.before.too_long.ensures ∙ c.if1.false
+short : (c : tie.Else-too_long) → long (start c.before) ≡ false
+short c = sym c.too_long.ensures ∙ c.if-too_long.false
 
-too-long-requires : tie.Need-too-long-requires
-too-long-requires c κs = search rules
+too_long-requires : tie.Need-too_long-requires
+too_long-requires c κs = search rules
 
-returns : tie.Need-returns
-returns c = answer (start c.before) true _ (sym c.before.too_long.ensures ∙ c.if1.true) refl
+returns-then-too_long : tie.Need-returns-then-too_long
+returns-then-too_long c = answer (start c.before) true _ (sym c.too_long.ensures ∙ c.if-too_long.true) refl
 
-log-length-requires : tie.Need-log-length-requires
-log-length-requires c κs =
+log_length-requires : tie.Need-log_length-requires
+log_length-requires c κs =
     let a = (start c.before).args in
     items_fit a.nonce.now a.host.now a.collector.now a.locale.now (short c)
 
-returns-2 : tie.Need-returns-2
-returns-2 c =
+returns-then-bytes-log_length : tie.Need-returns-then-bytes-log_length
+returns-then-bytes-log_length c =
     let s = start c.before.before.before in
-    answer s false true (short c.before.before) (lt-ltb s.args.bytes (length (header s)) (omega (arith, c.before.log-length.ensures)))
+    answer s false true (short c.before.before) (lt-ltb s.args.bytes (length (header s)) (omega (arith, c.log_length.ensures)))
 
-returns-3 : tie.Need-returns-3
-returns-3 c =
+returns : tie.Need-returns
+returns c =
     let s = start c.before.before.before in
-    answer s false false (short c.before.before) (le-ltb s.args.bytes (length (header s)) (omega (arith, c.before.log-length.ensures)))
+    answer s false false (short c.before.before) (le-ltb s.args.bytes (length (header s)) (omega (arith, c.log_length.ensures)))
 
 pub settled_spec : {M : Type 1} → statement M
 settled_spec =
-    tie.close (tie.spec too-long-requires returns log-length-requires returns-2 returns-3)
+    tie.close (tie.spec
+    too_long-requires
+    returns-then-too_long
+    log_length-requires
+    returns-then-bytes-log_length
+    returns)

@@ -25,35 +25,40 @@ module _ (nonce host collector locale : Bytes) where
   none : length nonce ≤ 1024 → length host ≤ 1024 → length collector ≤ 1024 → length locale ≤ 1024 → false ≡ too_long nonce host collector locale
   none p q r s = simp (le-ltb _ _ p, le-ltb _ _ q, le-ltb _ _ r, le-ltb _ _ s)
 
-abbrev start : tie.Else3 → tie.Start
+abbrev start : tie.Else-collector-gt1024 → tie.Start
 start c = c.before.before.before
+
+returns-then-nonce-gt1024 : tie.Need-returns-then-nonce-gt1024
+returns-then-nonce-gt1024 c =
+    let a = c.args in
+    first a.nonce.now a.host.now a.collector.now a.locale.now c.if-nonce-gt1024.true
+
+returns-then-host-gt1024 : tie.Need-returns-then-host-gt1024
+returns-then-host-gt1024 c =
+    let a = c.args in
+    second a.nonce.now a.host.now a.collector.now a.locale.now c.if-nonce-gt1024.false c.if-host-gt1024.true
+
+returns-then-collector-gt1024 : tie.Need-returns-then-collector-gt1024
+returns-then-collector-gt1024 c =
+    let a = c.args in
+    third a.nonce.now a.host.now a.collector.now a.locale.now c.if-nonce-gt1024.false c.if-host-gt1024.false c.if-collector-gt1024.true
+
+returns-then-locale-gt1024 : tie.Need-returns-then-locale-gt1024
+returns-then-locale-gt1024 c =
+    let p = c.before in
+    let a = (start p).args in
+    fourth a.nonce.now a.host.now a.collector.now a.locale.now p.if-nonce-gt1024.false p.if-host-gt1024.false p.if-collector-gt1024.false c.if-locale-gt1024.true
 
 returns : tie.Need-returns
 returns c =
-    let a = c.before.args in
-    first a.nonce.now a.host.now a.collector.now a.locale.now c.if1.true
-
-returns-2 : tie.Need-returns-2
-returns-2 c =
-    let a = c.before.before.args in
-    second a.nonce.now a.host.now a.collector.now a.locale.now c.before.if1.false c.if2.true
-
-returns-3 : tie.Need-returns-3
-returns-3 c =
-    let a = c.before.before.before.args in
-    third a.nonce.now a.host.now a.collector.now a.locale.now c.before.before.if1.false c.before.if2.false c.if3.true
-
-returns-4 : tie.Need-returns-4
-returns-4 c =
     let p = c.before in
     let a = (start p).args in
-    fourth a.nonce.now a.host.now a.collector.now a.locale.now p.before.before.if1.false p.before.if2.false p.if3.false c.if4.true
-
-returns-5 : tie.Need-returns-5
-returns-5 c =
-    let p = c.before in
-    let a = (start p).args in
-    none a.nonce.now a.host.now a.collector.now a.locale.now p.before.before.if1.false p.before.if2.false p.if3.false c.if4.false
+    none a.nonce.now a.host.now a.collector.now a.locale.now p.if-nonce-gt1024.false p.if-host-gt1024.false p.if-collector-gt1024.false c.if-locale-gt1024.false
 
 pub too_long_spec : {M : Type 1} → statement M
-too_long_spec = tie.close (tie.spec returns returns-2 returns-3 returns-4 returns-5)
+too_long_spec = tie.close (tie.spec
+    returns-then-nonce-gt1024
+    returns-then-host-gt1024
+    returns-then-collector-gt1024
+    returns-then-locale-gt1024
+    returns)

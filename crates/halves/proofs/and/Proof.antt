@@ -8,7 +8,7 @@ use Rattle.halves.proofs.and.Tie as tie
 
 returns : tie.Need-returns
 returns c =
-    columns_and c.args.t1 c.args.t2 (array_digits w32 4 _ _ c.well-formed.0) (array_digits w32 4 _ _ c.well-formed.1.0)
+    columns_and c.args.a c.args.b (array_digits w32 4 _ _ c.well_formed.0) (array_digits w32 4 _ _ c.well_formed.1.0)
 
 pub and_spec : {M : Type 1} → statement M
 and_spec =

@@ -13,12 +13,12 @@ returns c =
     let third = c.before.before in
     let second = third.before.before in
     let first = second.before.before in
-    let n = first.before.args.n in
+    let n = first.args.n in
     (λ i.
-    first.front-column.ensures i
-    ∷ (second.front-column2.ensures ∙ ap front_column second.before.less.ensures) i
-    ∷ (third.front-column3.ensures ∙ ap front_column third.before.less2.ensures) i
-    ∷ (c.front-column4.ensures ∙ ap front_column c.before.less3.ensures) i
+    first.front_column-a.ensures i
+    ∷ (second.front_column-b.ensures ∙ ap front_column second.less-n8.ensures) i
+    ∷ (third.front_column-c.ensures ∙ ap front_column third.less-n16.ensures) i
+    ∷ (c.front_column-d.ensures ∙ ap front_column c.less-n24.ensures) i
     ∷ [])
     ∙ front_columns n (omega arith)
 

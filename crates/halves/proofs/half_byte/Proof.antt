@@ -6,14 +6,17 @@ use Rattle.halves.proofs.ByteHalves.{half_bytes_even, half_bytes_odd}
 use Rattle.halves.proofs.half_byte.Statement.{statement}
 use Rattle.halves.proofs.half_byte.Tie as tie
 
-shared-slice-read-b : tie.Need-shared-slice-read-b
-shared-slice-read-b c = search rules
+bounds-s-j : tie.Need-bounds-s-j
+bounds-s-j c = search rules
+
+returns-then-j-eq0 : tie.Need-returns-then-j-eq0
+returns-then-j-eq0 c = sym (half_bytes_even c.args.s.now c.args.j c.if-j-eq0.true)
 
 returns : tie.Need-returns
-returns c = sym (half_bytes_even c.before.before.args.s.now c.before.before.args.j c.if1.true)
-
-returns-2 : tie.Need-returns-2
-returns-2 c = sym (half_bytes_odd c.before.before.args.s.now c.before.before.args.j (omega (arith, c.if1.false)))
+returns c = sym (half_bytes_odd c.args.s.now c.args.j (omega (arith, c.if-j-eq0.false)))
 
 pub half_byte_spec : {M : Type 1} → statement M
-half_byte_spec = tie.close (tie.spec shared-slice-read-b returns returns-2)
+half_byte_spec = tie.close (tie.spec
+    bounds-s-j
+    returns-then-j-eq0
+    returns)

@@ -16,23 +16,23 @@ use Rattle.halves.proofs.halves_of.Statement.{statement}
 use Rattle.halves.proofs.halves_of.Tie as tie
 
 -- from the second part to the copy, and from there to what is known of s
-abbrev copied : tie.After-part2 → tie.After-copy
+abbrev copied : tie.After-part-second → tie.After-copy
 copied c = c.before.before.before.before.before
 
-abbrev known : tie.After-copy → tie.After-shared-slice-known
+abbrev known : tie.After-copy → tie.After-shared_slice_known-1
 known c = c.before.before
 
 module _ (c : tie.After-copy) where
   abbrev s : Bytes
-  s = (known c).before.args.s.now
+  s = (known c).args.s.now
 
   abbrev n : ℕ
   n = length s
 
   s_bytes : Digits 8 n s
-  s_bytes = record { len = refl; low = below_of 256 s (λ i h. omega (arith, (known c).shared-slice-known.given i)) }
+  s_bytes = record { len = refl; low = below_of 256 s (λ i h. omega (arith, (known c).shared_slice_known-1.given i)) }
 
-  over : c.copy.new.0 ≡ s ++ replicate (32 - n) 0
+  over : c.copy.new.s ≡ s ++ replicate (32 - n) 0
   over =
       let zeros : List ℕ = replicate 32 0 in
       over_zeros n (omega arith) s _ (c.copy.ensures ∙ ap (λ (k : ℕ). s ++ drop k zeros) (zero-add n))
@@ -44,16 +44,16 @@ returns c =
     let second = at_a.before in
     let first = second.before.before in
     let k = copied second in
-    let a = (known k).before.args in
-    let few = (known k).before.pre.0 in
+    let a = (known k).args in
+    let few = (known k).requires.0 in
     let left = part_block (n k) few (s_bytes k) (over k) 0 (omega arith) in
     let right = part_block (n k) few (s_bytes k) (over k) (n k) (omega arith) in
-    let bits = made (front_block (n k) (omega arith)) (known k).before.pre.1 in
+    let bits = made (front_block (n k) (omega arith)) (known k).requires.1 in
     ap₂ (λ (X Y : Bytes). record { L = X; R = Y })
-    (made (and_block (block_of_block at_a.of-block.result) (block_of_block a.bits)) at-and.and.ensures
-    ∙ ap₂ ◌and◌ (made left (at_a.of-block.ensures ∙ ap columns_of first.part.ensures)) bits
+    (made (and_block (block_of_block at_a.of_block-a.result) (block_of_block a.bits)) at-and.and-l.ensures
+    ∙ ap₂ ◌and◌ (made left (at_a.of_block-a.ensures ∙ ap columns_of first.part-first.ensures)) bits
     ∙ left_half (n k) few (s_bytes k) (over k))
-    (made right (c.of-block2.ensures ∙ ap columns_of second.part2.ensures) ∙ right_half (n k) few (s_bytes k) (over k))
+    (made right (c.of_block-r.ensures ∙ ap columns_of second.part-second.ensures) ∙ right_half (n k) few (s_bytes k) (over k))
 
 pub halves_of_spec : {M : Type 1} → statement M
 halves_of_spec =

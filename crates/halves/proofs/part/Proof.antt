@@ -31,48 +31,48 @@ module _ (at : ℕ) (H : List ℕ) (in-H : at + 32 ≤ length H) where
       (get_or-take 32 (drop at H) (2 * i) 0 (omega arith) ∙ get_or-drop at H (2 * i) 0)
       (get_or-take 32 (drop at H) (2 * i + 1) 0 (omega arith) ∙ get_or-drop at H (2 * i + 1) 0))
 
-abbrev invariant-loop : tie.invariant-loop
-invariant-loop s at r₀ i₀ r i = (i ≤ 16) × Front (whole_bytes (cut at (half_bytes s))) r i
+abbrev invariant-loop-i : tie.invariant-loop-i
+invariant-loop-i s at r₀ i₀ r i = (i ≤ 16) × Front (whole_bytes (cut at (half_bytes s))) r i
 
-abbrev decreases-loop : tie.decreases-loop
-decreases-loop s at r₀ i₀ r i = 16 - i
+abbrev decreases-loop-i : tie.decreases-loop-i
+decreases-loop-i s at r₀ i₀ r i = 16 - i
 
-abbrev start : tie.At-loop invariant-loop decreases-loop → tie.Start invariant-loop decreases-loop
+abbrev start : tie.At-loop-i invariant-loop-i decreases-loop-i → tie.Start invariant-loop-i decreases-loop-i
 start c = c.before.before
 
-abbrev H : tie.Start invariant-loop decreases-loop → List ℕ
+abbrev H : tie.Start invariant-loop-i decreases-loop-i → List ℕ
 H c = half_bytes c.args.s.now
 
-reach : (c : tie.Start invariant-loop decreases-loop) → c.args.at + 32 ≤ length (H c)
+reach : (c : tie.Start invariant-loop-i decreases-loop-i) → c.args.at + 32 ≤ length (H c)
 reach c = omega (arith, length_half_bytes c.args.s.now)
 
-loop-holds : tie.Need-loop-init invariant-loop decreases-loop
-loop-holds c =
+loop-i-init : tie.Need-loop-i-init invariant-loop-i decreases-loop-i
+loop-i-init c =
     let s = c.before in
     (omega arith, record { long = sym (bytes_long s.args.at (H s) (reach s)); same = refl })
 
-loop-again : tie.Need-loop-preserved invariant-loop decreases-loop
-loop-again c =
+loop-i-preserved : tie.Need-loop-i-preserved invariant-loop-i decreases-loop-i
+loop-i-preserved c =
     let k = c.before.before.before.before in
     let s = start k in
-    let i = k.loop.i in (
+    let i = k.loop-i.i in (
       omega arith,
-      front_more _ k.loop.invariant.1 (omega (arith, bytes_long s.args.at (H s) (reach s)))
-          (c.byte-of.ensures ∙ ap₂ byte_of c.before.before.half-byte.ensures c.before.half-byte2.ensures ∙ byte_at_lem s.args.at (H s) (reach s) i (omega arith)),
+      front_more _ k.loop-i.invariant.1 (omega (arith, bytes_long s.args.at (H s) (reach s)))
+          (c.byte_of-b.ensures ∙ ap₂ byte_of c.half_byte-h.ensures c.half_byte-l.ensures ∙ byte_at_lem s.args.at (H s) (reach s) i (omega arith)),
     )
 
-returns : tie.Need-returns invariant-loop decreases-loop
+returns : tie.Need-returns invariant-loop-i decreases-loop-i
 returns c =
     let s = start c.before in
-    front_all c.before.loop.invariant.1 (bytes_long s.args.at (H s) (reach s) ∙ omega arith)
+    front_all c.loop-i.invariant.1 (bytes_long s.args.at (H s) (reach s) ∙ omega arith)
 
 pub part_spec : {M : Type 1} → statement M
 part_spec =
     tie.close
     (tie.spec
-    invariant-loop
-    decreases-loop
-    loop-holds
+    invariant-loop-i
+    decreases-loop-i
+    loop-i-init
     (λ c. search rules)
     (λ c. search rules)
     (λ c κs. search rules)
@@ -84,5 +84,5 @@ part_spec =
     (λ c. search rules)
     (λ c. search rules)
     (λ c. search rules)
-    loop-again
+    loop-i-preserved
     returns)

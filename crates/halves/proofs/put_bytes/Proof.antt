@@ -10,83 +10,83 @@ use Rattle.halves.proofs.ByteHalves.{whole_bytes_digits, whole_bytes_at}
 use Rattle.halves.proofs.put_bytes.Statement.{statement}
 use Rattle.halves.proofs.put_bytes.Tie as tie
 
-abbrev invariant-loop : tie.invariant-loop
-invariant-loop s₀ h i₀ s i = (i ≤ length s₀) × Front (whole_bytes h) s i × (length s ≡ length s₀)
+abbrev invariant-loop-i : tie.invariant-loop-i
+invariant-loop-i s₀ h i₀ s i = (i ≤ length s₀) × Front (whole_bytes h) s i × (length s ≡ length s₀)
 
-abbrev decreases-loop : tie.decreases-loop
-decreases-loop s₀ h i₀ s i = length s₀ - i
+abbrev decreases-loop-i : tie.decreases-loop-i
+decreases-loop-i s₀ h i₀ s i = length s₀ - i
 
 -- as many bytes as s has
-long : (c : tie.Start invariant-loop decreases-loop) → length (whole_bytes c.args.h.now) ≡ length c.args.s.now
+long : (c : tie.Start invariant-loop-i decreases-loop-i) → length (whole_bytes c.args.h.now) ≡ length c.args.s.now
 long c = (whole_bytes_digits (length c.args.s.now) c.args.h.now c.requires).len
 
-abbrev at_loop : tie.After-byte-of invariant-loop decreases-loop → tie.At-loop invariant-loop decreases-loop
+abbrev at_loop : tie.After-byte_of-b invariant-loop-i decreases-loop-i → tie.At-loop-i invariant-loop-i decreases-loop-i
 at_loop c = c.before.before.before.before
 
-abbrev start : tie.At-loop invariant-loop decreases-loop → tie.Start invariant-loop decreases-loop
+abbrev start : tie.At-loop-i invariant-loop-i decreases-loop-i → tie.Start invariant-loop-i decreases-loop-i
 start c = c.before.before.before
 
-loop-holds : tie.Need-loop-init invariant-loop decreases-loop
-loop-holds c = (omega arith, record { long = sym (long c.before.before); same = refl }, refl)
+loop-i-init : tie.Need-loop-i-init invariant-loop-i decreases-loop-i
+loop-i-init c = (omega arith, record { long = sym (long c.before.before); same = refl }, refl)
 
-mul-byte-of : tie.Need-overflow-mul-byte-of invariant-loop decreases-loop
-mul-byte-of c = search rules
+overflow_mul-i : tie.Need-overflow_mul-i invariant-loop-i decreases-loop-i
+overflow_mul-i c = search rules
 
-shared-slice-read-byte-of : tie.Need-shared-slice-read-byte-of invariant-loop decreases-loop
-shared-slice-read-byte-of c = search rules
+bounds-h-i : tie.Need-bounds-h-i invariant-loop-i decreases-loop-i
+bounds-h-i c = search rules
 
-mul-byte-of-2 : tie.Need-overflow-mul-byte-of-2 invariant-loop decreases-loop
-mul-byte-of-2 c = search rules
+overflow_mul-i-in-loop-i : tie.Need-overflow_mul-i-in-loop-i invariant-loop-i decreases-loop-i
+overflow_mul-i-in-loop-i c = search rules
 
-add-byte-of : tie.Need-overflow-add-byte-of invariant-loop decreases-loop
-add-byte-of c = search rules
+overflow_add-i : tie.Need-overflow_add-i invariant-loop-i decreases-loop-i
+overflow_add-i c = search rules
 
-shared-slice-read-byte-of-2 : tie.Need-shared-slice-read-byte-of-2 invariant-loop decreases-loop
-shared-slice-read-byte-of-2 c = search rules
+bounds-h-i-in-loop-i : tie.Need-bounds-h-i-in-loop-i invariant-loop-i decreases-loop-i
+bounds-h-i-in-loop-i c = search rules
 
-byte-of-requires : tie.Need-byte-of-requires invariant-loop decreases-loop
-byte-of-requires c κs = search rules
+byte_of-b-requires : tie.Need-byte_of-b-requires invariant-loop-i decreases-loop-i
+byte_of-b-requires c κs = search rules
 
-slice-write-s : tie.Need-slice-write-s invariant-loop decreases-loop
-slice-write-s c = search rules
+bounds-s-i : tie.Need-bounds-s-i invariant-loop-i decreases-loop-i
+bounds-s-i c = search rules
 
-add-i : tie.Need-overflow-add-i invariant-loop decreases-loop
-add-i c = search rules
+overflow_add-i-in-loop-i : tie.Need-overflow_add-i-in-loop-i invariant-loop-i decreases-loop-i
+overflow_add-i-in-loop-i c = search rules
 
-loop-less : tie.Need-loop-smaller invariant-loop decreases-loop
-loop-less c = search rules
+loop-i-smaller : tie.Need-loop-i-smaller invariant-loop-i decreases-loop-i
+loop-i-smaller c = search rules
 
-loop-again : tie.Need-loop-preserved invariant-loop decreases-loop
-loop-again c =
-    let l = (at_loop c).loop in
+loop-i-preserved : tie.Need-loop-i-preserved invariant-loop-i decreases-loop-i
+loop-i-preserved c =
+    let l = (at_loop c).loop-i in
     let a = (start (at_loop c)).args in (
       omega arith,
-      front_more _ l.invariant.1 (omega (arith, long (start (at_loop c)))) (c.byte-of.ensures ∙ sym (whole_bytes_at a.h.now l.i (omega arith))),
-      length-set l.s l.i c.byte-of.result ∙ l.invariant.2,
+      front_more _ l.invariant.1 (omega (arith, long (start (at_loop c)))) (c.byte_of-b.ensures ∙ sym (whole_bytes_at a.h.now l.i (omega arith))),
+      length-set l.s l.i c.byte_of-b.result ∙ l.invariant.2,
     )
 
-same_length : tie.Need-same-length invariant-loop decreases-loop
-same_length c = c.before.loop.invariant.2
+shape_of-s : tie.Need-shape_of-s invariant-loop-i decreases-loop-i
+shape_of-s c = c.loop-i.invariant.2
 
-returns : tie.Need-returns invariant-loop decreases-loop
-returns c = front_all c.before.loop.invariant.1 (long (start c.before) ∙ omega arith)
+returns : tie.Need-returns invariant-loop-i decreases-loop-i
+returns c = front_all c.loop-i.invariant.1 (long (start c.before) ∙ omega arith)
 
 pub put_bytes_spec : {M : Type 1} → statement M
 put_bytes_spec =
     tie.close
     (tie.spec
-    invariant-loop
-    decreases-loop
-    loop-holds
-    mul-byte-of
-    shared-slice-read-byte-of
-    mul-byte-of-2
-    add-byte-of
-    shared-slice-read-byte-of-2
-    byte-of-requires
-    slice-write-s
-    add-i
-    loop-less
-    loop-again
-    same_length
+    invariant-loop-i
+    decreases-loop-i
+    loop-i-init
+    overflow_mul-i
+    bounds-h-i
+    overflow_mul-i-in-loop-i
+    overflow_add-i
+    bounds-h-i-in-loop-i
+    byte_of-b-requires
+    bounds-s-i
+    overflow_add-i-in-loop-i
+    loop-i-smaller
+    loop-i-preserved
+    shape_of-s
     returns)

@@ -9,15 +9,18 @@ use Rattle.masks.proofs.next_power.Tie as tie
 double-requires : tie.Need-double-requires
 double-requires c κs = search rules
 
-returns : tie.Need-returns
-returns c =
-    let eighth : c.before.before.args.b % 8 ≡ 0 = c.before.if1.true in
+returns-then-b-eq0 : tie.Need-returns-then-b-eq0
+returns-then-b-eq0 c =
+    let eighth : c.args.b % 8 ≡ 0 = c.if-b-eq0.true in
     rw (eq-eqb _ _ eighth) c.double.ensures
 
-returns-2 : tie.Need-returns-2
-returns-2 c =
-    let other : c.before.args.b % 8 ≡ 0 → ⊥ = c.if1.false in
+returns : tie.Need-returns
+returns c =
+    let other : c.args.b % 8 ≡ 0 → ⊥ = c.if-b-eq0.false in
     simp (ne_eqb _ _ other)
 
 pub next_power_spec : {M : Type 1} → statement M
-next_power_spec = tie.close (tie.spec double-requires returns returns-2)
+next_power_spec = tie.close (tie.spec
+    double-requires
+    returns-then-b-eq0
+    returns)

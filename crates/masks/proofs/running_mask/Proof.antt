@@ -10,8 +10,8 @@ use Rattle.masks.proofs.running_mask.Tie as tie
 
 returns : tie.Need-returns
 returns c =
-    let power = c.before.before.args.power in
-    c.xor.ensures ∙ ap (λ (l : List ℕ). columns_of (block_of l ⊕ block_of power)) c.before.multiple.ensures
+    let power = c.args.power in
+    c.xor.ensures ∙ ap (λ (l : List ℕ). columns_of (block_of l ⊕ block_of power)) c.multiple-low.ensures
 
 pub running_mask_spec : {M : Type 1} → statement M
 running_mask_spec =

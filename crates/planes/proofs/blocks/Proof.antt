@@ -11,40 +11,40 @@ use Rattle.planes.proofs.Fills.{one_block}
 use Rattle.planes.proofs.blocks.Statement.{statement}
 use Rattle.planes.proofs.blocks.Tie as tie
 
-abbrev invariant-loop : tie.invariant-loop
-invariant-loop w r₀ b₀ r b = (b ≤ 16) × (r ≡ paste r₀ 0 (group_of w) b)
+abbrev invariant-loop-b : tie.invariant-loop-b
+invariant-loop-b w r₀ b₀ r b = (b ≤ 16) × (r ≡ paste r₀ 0 (group_of w) b)
 
-abbrev decreases-loop : tie.decreases-loop
-decreases-loop w r₀ b₀ r b = 16 - b
+abbrev decreases-loop-b : tie.decreases-loop-b
+decreases-loop-b w r₀ b₀ r b = 16 - b
 
 -- what the list starts from
 abbrev zeros : List (List ℕ)
 zeros = replicate 16 (replicate 4 0)
 
-loop-holds : tie.Need-loop-init invariant-loop decreases-loop
-loop-holds c = (omega arith, refl)
+loop-b-init : tie.Need-loop-b-init invariant-loop-b decreases-loop-b
+loop-b-init c = (omega arith, refl)
 
-loop-again : tie.Need-loop-preserved invariant-loop decreases-loop
-loop-again c =
-    let k = c.before.before.loop in
-    let w = c.before.before.before.args.t1 in
-    let x = c.columns-in in
-    (omega arith, one_block w zeros k.r k.b x.result refl c.before.loop-test.true k.invariant.1 x.ensures)
+loop-b-preserved : tie.Need-loop-b-preserved invariant-loop-b decreases-loop-b
+loop-b-preserved c =
+    let k = c.loop-b in
+    let w = c.args.w in
+    let x = c.columns_in-c in
+    (omega arith, one_block w zeros k.r k.b x.result refl c.loop-b-test.true k.invariant.1 x.ensures)
 
-returns : tie.Need-returns invariant-loop decreases-loop
+returns : tie.Need-returns invariant-loop-b decreases-loop-b
 unfolding group_of
 returns c =
-    let k = c.before.loop in
+    let k = c.loop-b in
     let done : k.b ≡ 16 = omega arith in
-    k.invariant.1 ∙ ap (paste zeros 0 (group_of c.before.before.args.t1)) done
+    k.invariant.1 ∙ ap (paste zeros 0 (group_of c.args.w)) done
 
 pub blocks_spec : {M : Type 1} → statement M
 blocks_spec =
     tie.close
     (tie.spec
-    invariant-loop
-    decreases-loop
-    loop-holds
+    invariant-loop-b
+    decreases-loop-b
+    loop-b-init
     (λ c. search rules)
     (λ c. search rules)
     (λ c. search rules)
@@ -57,5 +57,5 @@ blocks_spec =
     (λ c. search rules)
     (λ c. search rules)
     (λ c. search rules)
-    loop-again
+    loop-b-preserved
     returns)

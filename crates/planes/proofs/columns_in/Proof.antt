@@ -9,4 +9,9 @@ returns c = refl
 
 pub columns_in_spec : {M : Type 1} → statement M
 columns_in_spec =
-    tie.close (tie.spec (λ c. search rules) (λ c. search rules) (λ c. search rules) (λ c. search rules) returns)
+    tie.close (tie.spec
+    (λ c. search rules)
+    (λ c. search rules)
+    (λ c. search rules)
+    (λ c. search rules)
+    returns)

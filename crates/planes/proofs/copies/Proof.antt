@@ -22,55 +22,55 @@ word x y i = word_of 64 (spread_bit (bit x) (bit y) (8 * (i % 4) + i / 4))
 abbrev wanted : ℕ → ℕ → List ℕ
 wanted x y = words_of (λ i. spread_bit (bit x) (bit y) (8 * (i % 4) + i / 4))
 
-abbrev invariant-loop : tie.invariant-loop
-invariant-loop x y r₀ n₀ i₀ r n i = (i ≤ 32) × (n ≡ i) × Front (wanted x y) r i
+abbrev invariant-loop-i : tie.invariant-loop-i
+invariant-loop-i x y r₀ n₀ i₀ r n i = (i ≤ 32) × (n ≡ i) × Front (wanted x y) r i
 
-abbrev decreases-loop : tie.decreases-loop
-decreases-loop x y r₀ n₀ i₀ r n i = 32 - i
+abbrev decreases-loop-i : tie.decreases-loop-i
+decreases-loop-i x y r₀ n₀ i₀ r n i = 32 - i
 
 -- the two words of the columns
-abbrev x : tie.At-loop invariant-loop decreases-loop → ℕ
-x c = c.before.before.joined.result
+abbrev x : tie.At-loop-i invariant-loop-i decreases-loop-i → ℕ
+x c = c.joined-x.result
 
-abbrev y : tie.At-loop invariant-loop decreases-loop → ℕ
-y c = c.before.joined2.result
+abbrev y : tie.At-loop-i invariant-loop-i decreases-loop-i → ℕ
+y c = c.joined-y.result
 
-loop-holds : tie.Need-loop-init invariant-loop decreases-loop
-loop-holds c = (omega arith, refl, record { long = refl; same = refl })
+loop-i-init : tie.Need-loop-i-init invariant-loop-i decreases-loop-i
+loop-i-init c = (omega arith, refl, record { long = refl; same = refl })
 
-loop-again : tie.Need-loop-preserved invariant-loop decreases-loop
-loop-again c =
-    let at : tie.At-loop invariant-loop decreases-loop = c.before.before in
-    let l = at.loop in
+loop-i-preserved : tie.Need-loop-i-preserved invariant-loop-i decreases-loop-i
+loop-i-preserved c =
+    let at : tie.At-loop-i invariant-loop-i decreases-loop-i = c.before.before in
+    let l = at.loop-i in
     let below : l.i < 32 = omega arith in
-    let made : c.spread.result ≡ get_or (wanted (x at) (y at)) l.i 0 =
-    c.spread.ensures
+    let made : c.spread-w.result ≡ get_or (wanted (x at) (y at)) l.i 0 =
+    c.spread-w.ensures
     ∙ ap (word (x at) (y at)) l.invariant.1
     ∙ sym (get_or_tab 32 l.i (word (x at) (y at)) below) in
-    (omega arith, ap (λ (k : ℕ). k + 1) l.invariant.1, front_more c.spread.result l.invariant.2 below made)
+    (omega arith, ap (λ (k : ℕ). k + 1) l.invariant.1, front_more c.spread-w.result l.invariant.2 below made)
 
-returns : tie.Need-returns invariant-loop decreases-loop
+returns : tie.Need-returns invariant-loop-i decreases-loop-i
 returns c =
-    let at : tie.At-loop invariant-loop decreases-loop = c.before in
-    let l = at.loop in
-    let s = at.before.before.before.args.t1 in
+    let at : tie.At-loop-i invariant-loop-i decreases-loop-i = c.before in
+    let l = at.loop-i in
+    let s = at.args.s in
     let all : 32 ≡ l.i = omega (arith, l.invariant.0) in
-    let is = front_all l.invariant.2 all ∙ copied_words s (x at) (y at) at.before.before.joined.ensures at.before.joined2.ensures in
+    let is = front_all l.invariant.2 all ∙ copied_words s (x at) (y at) at.joined-x.ensures at.joined-y.ensures in
     (in_every_place s l.r is, is)
 
 pub copies_spec : {M : Type 1} → statement M
 copies_spec =
     tie.close
     (tie.spec
-    invariant-loop
-    decreases-loop
+    invariant-loop-i
+    decreases-loop-i
     (λ c. search rules)
     (λ c. search rules)
     (λ c κs. search rules)
     (λ c. search rules)
     (λ c. search rules)
     (λ c κs. search rules)
-    loop-holds
+    loop-i-init
     (λ c. search rules)
     (λ c. search rules)
     (λ c κs. search rules)
@@ -79,5 +79,5 @@ copies_spec =
     (λ c. search rules)
     (λ c. search rules)
     (λ c. search rules)
-    loop-again
+    loop-i-preserved
     returns)

@@ -5,8 +5,8 @@ use Rattle.planes.proofs.Sixteenfold.{four_fits, spread_word}
 use Rattle.planes.proofs.spread.Statement.{statement}
 use Rattle.planes.proofs.spread.Tie as tie
 
-mul-result : tie.Need-overflow-mul-result
-mul-result c =
+overflow_mul-result : tie.Need-overflow_mul-result
+overflow_mul-result c =
     let a = c.args in
     omega (arith, four_fits a.x a.y a.n)
 
@@ -16,4 +16,8 @@ returns c =
     spread_word a.x a.y a.n
 
 pub spread_spec : {M : Type 1} → statement M
-spread_spec = tie.close (tie.spec (λ c. search rules) (λ c. search rules) mul-result returns)
+spread_spec = tie.close (tie.spec
+    (λ c. search rules)
+    (λ c. search rules)
+    overflow_mul-result
+    returns)

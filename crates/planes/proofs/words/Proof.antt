@@ -9,47 +9,47 @@ use Rattle.planes.proofs.Fills.{length_words, four_words}
 use Rattle.planes.proofs.words.Statement.{statement}
 use Rattle.planes.proofs.words.Tie as tie
 
-abbrev invariant-loop : tie.invariant-loop
-invariant-loop g r₀ i₀ r i = (i ≤ 8) × Front (group_words g) r (4 * i)
+abbrev invariant-loop-i : tie.invariant-loop-i
+invariant-loop-i g r₀ i₀ r i = (i ≤ 8) × Front (group_words g) r (4 * i)
 
-abbrev decreases-loop : tie.decreases-loop
-decreases-loop g r₀ i₀ r i = 8 - i
+abbrev decreases-loop-i : tie.decreases-loop-i
+decreases-loop-i g r₀ i₀ r i = 8 - i
 
 -- the first of the four words, and the turn that it is in
-abbrev first : tie.After-joined4 invariant-loop decreases-loop → tie.After-joined invariant-loop decreases-loop
+abbrev first : tie.After-joined-in-loop-i-3 invariant-loop-i decreases-loop-i → tie.After-joined invariant-loop-i decreases-loop-i
 first c = c.before.before.before
 
-abbrev turn : tie.After-joined invariant-loop decreases-loop → tie.At-loop invariant-loop decreases-loop
+abbrev turn : tie.After-joined invariant-loop-i decreases-loop-i → tie.At-loop-i invariant-loop-i decreases-loop-i
 turn c = c.before.before.before.before
 
-loop-holds : tie.Need-loop-init invariant-loop decreases-loop
-loop-holds c = (omega arith, record { long = sym (length_words c.args.g.now); same = refl })
+loop-i-init : tie.Need-loop-i-init invariant-loop-i decreases-loop-i
+loop-i-init c = (omega arith, record { long = sym (length_words c.args.g.now); same = refl })
 
-loop-again : tie.Need-loop-preserved invariant-loop decreases-loop
-loop-again c =
+loop-i-preserved : tie.Need-loop-i-preserved invariant-loop-i decreases-loop-i
+loop-i-preserved c =
     let t = turn (first c) in
-    let k = t.loop in
+    let k = t.loop-i in
     let u = (first c).joined in
-    let v = c.before.before.joined2 in
-    let x = c.before.joined3 in
-    let y = c.joined4 in (
-      omega (arith, k.inv.0),
-      four_words t.before.args.g.now k.r k.i u.result v.result x.result y.result (omega arith) k.inv.1
+    let v = c.joined-in-loop-i in
+    let x = c.joined-in-loop-i-2 in
+    let y = c.joined-in-loop-i-3 in (
+      omega (arith, k.invariant.0),
+      four_words t.args.g.now k.r k.i u.result v.result x.result y.result (omega arith) k.invariant.1
           u.ensures v.ensures x.ensures y.ensures,
     )
 
-returns : tie.Need-returns invariant-loop decreases-loop
+returns : tie.Need-returns invariant-loop-i decreases-loop-i
 returns c =
-    let k = c.before.loop in
-    front_all k.invariant.1 (length_words c.before.before.args.g.now ∙ omega arith)
+    let k = c.loop-i in
+    front_all k.invariant.1 (length_words c.args.g.now ∙ omega arith)
 
 pub words_spec : {M : Type 1} → statement M
 words_spec =
     tie.close
     (tie.spec
-    invariant-loop
-    decreases-loop
-    loop-holds
+    invariant-loop-i
+    decreases-loop-i
+    loop-i-init
     (λ c. search rules)
     (λ c. search rules)
     (λ c. search rules)
@@ -86,5 +86,5 @@ words_spec =
     (λ c. search rules)
     (λ c. search rules)
     (λ c. search rules)
-    loop-again
+    loop-i-preserved
     returns)

@@ -8,9 +8,9 @@ use Rattle.tbc.proofs.base_of.Tie as tie
 returns : tie.Need-returns
 returns c =
     let l = c.before.before.before in
-    let i' = c.before.before.crossed.ensures ∙ ap crossed l.before.before.of-block.ensures in
-    let j' = c.before.crossed2.ensures ∙ ap crossed l.before.of-block2.ensures in
-    let l' = c.crossed3.ensures ∙ ap crossed l.of-block3.ensures in
+    let i' = c.crossed-i.ensures ∙ ap crossed l.of_block-columns_i.ensures in
+    let j' = c.crossed-j.ensures ∙ ap crossed l.of_block-columns_j.ensures in
+    let l' = c.crossed-l.ensures ∙ ap crossed l.of_block-columns_l.ensures in
     λ n. record { i = i' n; j = j' n; l = l' n }
 
 pub base_of_spec : {M : Type 1} → statement M

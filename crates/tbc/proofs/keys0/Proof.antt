@@ -10,4 +10,5 @@ unfolding crossed_bytes plane_bytes lane
 returns c = refl
 
 pub keys0_spec : {M : Type 1} → statement M
-keys0_spec = tie.close (tie.spec returns)
+keys0_spec = tie.close (tie.spec
+    returns)

@@ -10,4 +10,5 @@ unfolding crossed_bytes plane_bytes lane
 returns c = refl
 
 pub keys1_spec : {M : Type 1} → statement M
-keys1_spec = tie.close (tie.spec returns)
+keys1_spec = tie.close (tie.spec
+    returns)

@@ -7,4 +7,5 @@ returns : tie.Need-returns
 returns c = refl
 
 pub keys10_spec : {M : Type 1} → statement M
-keys10_spec = tie.close (tie.spec returns)
+keys10_spec = tie.close (tie.spec
+    returns)

@@ -7,4 +7,5 @@ returns : tie.Need-returns
 returns c = refl
 
 pub keys2_spec : {M : Type 1} → statement M
-keys2_spec = tie.close (tie.spec returns)
+keys2_spec = tie.close (tie.spec
+    returns)

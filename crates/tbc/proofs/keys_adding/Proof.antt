@@ -17,11 +17,15 @@ returns c =
     let at_read = sum.before in
     let s = at_read.before in
     let a = s.args in
-    let of_j = at_read.multiple.ensures ∙ read a.k a.m.now s.requires.1 a.p.2 s.requires.0 in
+    let of_j = at_read.multiple-of_j.ensures ∙ read a.k a.m.now s.requires.1 a.p.2 s.requires.0 in
     c.keys0.ensures
     ∙ ap (masked0 a.k)
-    (sum.xor.ensures ∙ ap (λ (M : Bytes). columns_of (block_of a.added ⊕ M)) (made (times_block a.p.2 (base_bytes a.k).J) of_j))
+    (sum.xor-mask.ensures ∙ ap (λ (M : Bytes). columns_of (block_of a.added ⊕ M)) (made (times_block a.p.2 (base_bytes a.k).J) of_j))
 
 pub keys_adding_spec : {M : Type 1} → statement M
 keys_adding_spec =
-    tie.close (tie.spec (λ c κs. search rules) (λ c κs. search rules) (λ c κs. search rules) returns)
+    tie.close (tie.spec
+    (λ c κs. search rules)
+    (λ c κs. search rules)
+    (λ c κs. search rules)
+    returns)

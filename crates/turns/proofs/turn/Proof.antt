@@ -26,15 +26,20 @@ returns c =
     let keys = a.keys.now in
     let number_block = block_of_block (0 ∷ 0 ∷ 0 ∷ a.i ∷ []) in
     let x =
-    made (⊕_block (block_of_block a.s.r) number_block) at_x.xor.ensures
+    made (⊕_block (block_of_block a.s.r) number_block) at_x.xor-x.ensures
     ∙ ap (λ (N : Bytes). block_of a.s.r ⊕ N) (number_column a.i s.ranges.i.fits) in
-    let y = made (AES_keys keys (block_of_block at_x.xor.result)) at-aes.aes4-columns.ensures ∙ ap (AES4 (keys_of keys)) x in
+    let y = made (AES_keys keys (block_of_block at_x.xor-x.result)) at-aes.aes4_columns-y.ensures ∙ ap (AES4 (keys_of keys)) x in
     let kept =
-    made (and_block (block_of_block at-aes.aes4-columns.result) (block_of_block a.bits)) at-and.and.ensures
+    made (and_block (block_of_block at-aes.aes4_columns-y.result) (block_of_block a.bits)) at-and.and-kept.ensures
     ∙ ap (λ (Y : Bytes). Y and block_of a.bits) y in
     ap (λ (R : Bytes). record { L = block_of a.s.r; R = R })
-    (made (⊕_block (block_of_block a.s.l) (block_of_block at-and.and.result)) c.xor2.ensures ∙ ap (λ (K : Bytes). block_of a.s.l ⊕ K) kept)
+    (made (⊕_block (block_of_block a.s.l) (block_of_block at-and.and-kept.result)) c.xor-sum.ensures ∙ ap (λ (K : Bytes). block_of a.s.l ⊕ K) kept)
 
 pub turn_spec : {M : Type 1} → statement M
 turn_spec =
-    tie.close (tie.spec (λ c κs. search rules) (λ c κs. search rules) (λ c κs. search rules) (λ c κs. search rules) returns)
+    tie.close (tie.spec
+    (λ c κs. search rules)
+    (λ c κs. search rules)
+    (λ c κs. search rules)
+    (λ c κs. search rules)
+    returns)

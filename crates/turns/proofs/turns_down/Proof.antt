@@ -11,59 +11,59 @@ use Rattle.turns.proofs.Loops.{down_none, down_more}
 use Rattle.turns.proofs.turns_down.Statement.{statement}
 use Rattle.turns.proofs.turns_down.Tie as tie
 
-abbrev invariant-loop : tie.invariant-loop
-invariant-loop keys bits n t₀ left₀ t left =
+abbrev invariant-loop-left : tie.invariant-loop-left
+invariant-loop-left keys bits n t₀ left₀ t left =
     block_turns_down (keys_of keys) (block_of bits) left (blocks_of t) ≡ block_turns_down (keys_of keys) (block_of bits) left₀ (blocks_of t₀)
 
-abbrev decreases-loop : tie.decreases-loop
-decreases-loop keys bits n t₀ left₀ t left = left
+abbrev decreases-loop-left : tie.decreases-loop-left
+decreases-loop-left keys bits n t₀ left₀ t left = left
 
-abbrev start : tie.At-loop invariant-loop decreases-loop → tie.Start invariant-loop decreases-loop
+abbrev start : tie.At-loop-left invariant-loop-left decreases-loop-left → tie.Start invariant-loop-left decreases-loop-left
 start c = c.before.before
 
-rounds-requires : tie.Need-rounds-requires invariant-loop decreases-loop
-rounds-requires c κs = search rules
+rounds-left-requires : tie.Need-rounds-left-requires invariant-loop-left decreases-loop-left
+rounds-left-requires c κs = search rules
 
-loop-holds : tie.Need-loop-init invariant-loop decreases-loop
-loop-holds c = refl
+loop-left-init : tie.Need-loop-left-init invariant-loop-left decreases-loop-left
+loop-left-init c = refl
 
-sub-left : tie.Need-overflow-sub-left invariant-loop decreases-loop
-sub-left c = search rules
+overflow_sub-left : tie.Need-overflow_sub-left invariant-loop-left decreases-loop-left
+overflow_sub-left c = search rules
 
-turn-requires : tie.Need-turn-requires invariant-loop decreases-loop
-turn-requires c κs = search rules
+turn-next-requires : tie.Need-turn-next-requires invariant-loop-left decreases-loop-left
+turn-next-requires c κs = search rules
 
-loop-less : tie.Need-loop-smaller invariant-loop decreases-loop
-loop-less c = search rules
+loop-left-smaller : tie.Need-loop-left-smaller invariant-loop-left decreases-loop-left
+loop-left-smaller c = search rules
 
-loop-again : tie.Need-loop-preserved invariant-loop decreases-loop
-loop-again c =
+loop-left-preserved : tie.Need-loop-left-preserved invariant-loop-left decreases-loop-left
+loop-left-preserved c =
     let k = c.before.before in
     let a = (start k).args in
-    down_more (keys_of a.keys.now) (block_of a.bits) k.loop.left (blocks_of k.loop.t) _ _ c.before.loop-test.true k.loop.invariant c.turn.ensures
+    down_more (keys_of a.keys.now) (block_of a.bits) k.loop-left.left (blocks_of k.loop-left.t) _ _ c.loop-left-test.true k.loop-left.invariant c.turn-next.ensures
 
-returns : tie.Need-returns invariant-loop decreases-loop
+returns : tie.Need-returns invariant-loop-left decreases-loop-left
 returns c =
     let k = c.before in
     let a = (start k).args in
     let Ks = keys_of a.keys.now in
     let M = block_of a.bits in
-    let done : 0 ≡ k.loop.left = omega arith in
-    down_none Ks M (blocks_of k.loop.t) _
-    (ap (λ (i : ℕ). block_turns_down Ks M i (blocks_of k.loop.t)) done
-    ∙ k.loop.invariant
-    ∙ ap (λ (i : ℕ). block_turns_down Ks M i (blocks_of a.s)) k.before.rounds.ensures)
+    let done : 0 ≡ k.loop-left.left = omega arith in
+    down_none Ks M (blocks_of k.loop-left.t) _
+    (ap (λ (i : ℕ). block_turns_down Ks M i (blocks_of k.loop-left.t)) done
+    ∙ k.loop-left.invariant
+    ∙ ap (λ (i : ℕ). block_turns_down Ks M i (blocks_of a.s)) k.rounds-left.ensures)
 
 pub turns_down_spec : {M : Type 1} → statement M
 turns_down_spec =
     tie.close
     (tie.spec
-    invariant-loop
-    decreases-loop
-    rounds-requires
-    loop-holds
-    sub-left
-    turn-requires
-    loop-less
-    loop-again
+    invariant-loop-left
+    decreases-loop-left
+    rounds-left-requires
+    loop-left-init
+    overflow_sub-left
+    turn-next-requires
+    loop-left-smaller
+    loop-left-preserved
     returns)

@@ -11,54 +11,54 @@ use Rattle.turns.proofs.Loops.{up_none, up_more}
 use Rattle.turns.proofs.turns_up.Statement.{statement}
 use Rattle.turns.proofs.turns_up.Tie as tie
 
-abbrev invariant-loop : tie.invariant-loop
-invariant-loop keys bits n count t₀ i₀ t i = (i ≤ count) × (blocks_of t ≡ block_turns_up (keys_of keys) (block_of bits) i (blocks_of t₀))
+abbrev invariant-loop-i : tie.invariant-loop-i
+invariant-loop-i keys bits n count t₀ i₀ t i = (i ≤ count) × (blocks_of t ≡ block_turns_up (keys_of keys) (block_of bits) i (blocks_of t₀))
 
-abbrev decreases-loop : tie.decreases-loop
-decreases-loop keys bits n count t₀ i₀ t i = count - i
+abbrev decreases-loop-i : tie.decreases-loop-i
+decreases-loop-i keys bits n count t₀ i₀ t i = count - i
 
-abbrev start : tie.At-loop invariant-loop decreases-loop → tie.Start invariant-loop decreases-loop
+abbrev start : tie.At-loop-i invariant-loop-i decreases-loop-i → tie.Start invariant-loop-i decreases-loop-i
 start c = c.before.before
 
-rounds-requires : tie.Need-rounds-requires invariant-loop decreases-loop
-rounds-requires c κs = search rules
+rounds-count-requires : tie.Need-rounds-count-requires invariant-loop-i decreases-loop-i
+rounds-count-requires c κs = search rules
 
-loop-holds : tie.Need-loop-init invariant-loop decreases-loop
-loop-holds c = let a = c.before.args in (omega arith, up_none (keys_of a.keys.now) (block_of a.bits) (blocks_of a.s))
+loop-i-init : tie.Need-loop-i-init invariant-loop-i decreases-loop-i
+loop-i-init c = let a = c.args in (omega arith, up_none (keys_of a.keys.now) (block_of a.bits) (blocks_of a.s))
 
-turn-requires : tie.Need-turn-requires invariant-loop decreases-loop
-turn-requires c κs = search rules
+turn-next-requires : tie.Need-turn-next-requires invariant-loop-i decreases-loop-i
+turn-next-requires c κs = search rules
 
-add-i : tie.Need-overflow-add-i invariant-loop decreases-loop
-add-i c = search rules
+overflow_add-i : tie.Need-overflow_add-i invariant-loop-i decreases-loop-i
+overflow_add-i c = search rules
 
-loop-less : tie.Need-loop-smaller invariant-loop decreases-loop
-loop-less c = search rules
+loop-i-smaller : tie.Need-loop-i-smaller invariant-loop-i decreases-loop-i
+loop-i-smaller c = search rules
 
-loop-again : tie.Need-loop-preserved invariant-loop decreases-loop
-loop-again c =
+loop-i-preserved : tie.Need-loop-i-preserved invariant-loop-i decreases-loop-i
+loop-i-preserved c =
     let k = c.before.before in
     let a = (start k).args in
-    (omega arith, up_more (keys_of a.keys.now) (block_of a.bits) k.loop.i (blocks_of a.s) _ _ k.loop.invariant.1 c.turn.ensures)
+    (omega arith, up_more (keys_of a.keys.now) (block_of a.bits) k.loop-i.i (blocks_of a.s) _ _ k.loop-i.invariant.1 c.turn-next.ensures)
 
-returns : tie.Need-returns invariant-loop decreases-loop
+returns : tie.Need-returns invariant-loop-i decreases-loop-i
 returns c =
     let k = c.before in
     let a = (start k).args in
-    let done : k.loop.i ≡ k.before.rounds.result = omega arith in
-    k.loop.invariant.1
-    ∙ ap (λ (i : ℕ). block_turns_up (keys_of a.keys.now) (block_of a.bits) i (blocks_of a.s)) (done ∙ k.before.rounds.ensures)
+    let done : k.loop-i.i ≡ k.rounds-count.result = omega arith in
+    k.loop-i.invariant.1
+    ∙ ap (λ (i : ℕ). block_turns_up (keys_of a.keys.now) (block_of a.bits) i (blocks_of a.s)) (done ∙ k.rounds-count.ensures)
 
 pub turns_up_spec : {M : Type 1} → statement M
 turns_up_spec =
     tie.close
     (tie.spec
-    invariant-loop
-    decreases-loop
-    rounds-requires
-    loop-holds
-    turn-requires
-    add-i
-    loop-less
-    loop-again
+    invariant-loop-i
+    decreases-loop-i
+    rounds-count-requires
+    loop-i-init
+    turn-next-requires
+    overflow_add-i
+    loop-i-smaller
+    loop-i-preserved
     returns)

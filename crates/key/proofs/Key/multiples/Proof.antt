@@ -3,7 +3,8 @@ use Rattle.key.proofs.Key.multiples.Statement.{statement}
 use Rattle.key.proofs.Key.multiples.Tie as tie
 
 returns : tie.Need-returns
-returns c = c.before.requires.Js
+returns c = c.requires.Js
 
 pub multiples_spec : {M : Type 1} → statement M
-multiples_spec = tie.close (tie.spec returns)
+multiples_spec = tie.close (tie.spec
+    returns)

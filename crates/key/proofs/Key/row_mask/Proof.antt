@@ -23,69 +23,69 @@ abbrev J : tie.Start → Bytes
 J c = c.args.self.j
 
 J_block : (c : tie.Start) → Block (J c)
-J_block c = (key_bytes c.args.self _ c.well-formed.0).J
+J_block c = (key_bytes c.args.self _ c.well_formed.0).J
 
 -- a kept multiple of 8·J
 step : (c : tie.Start) (n : ℕ) → four_at c.args.self.rows (4 * (n % 8)) ≡ columns_of ((n % 8) · (8 · J c))
 step c n = kept (8 · J c) c.args.self.rows c.requires.0.Rows (n % 8) (omega arith)
 
-sub-s : tie.Need-overflow-sub-s
-sub-s c = search rules
+overflow_sub-s : tie.Need-overflow_sub-s
+overflow_sub-s c = search rules
 
 multiple-requires : tie.Need-multiple-requires
 multiple-requires c κs = search rules
 
-returns : tie.Need-returns
-returns c =
+returns-then-s-lt8 : tie.Need-returns-then-s-lt8
+returns-then-s-lt8 c =
     let s : tie.Start = c.before.before.before.before.before in
-    let small : row s % 8 ≡ row s = omega (arith, c.before.before.if1.true) in
+    let small : row s % 8 ≡ row s = omega (arith, c.if-s-lt8.true) in
     c.multiple.ensures ∙ step s (row s) ∙ ap (λ (n : ℕ). columns_of (n · (8 · J s))) small ∙ ap columns_of (times_eight (row s) (J s) (J_block s))
 
-multiple-requires-2 : tie.Need-multiple-requires-2
-multiple-requires-2 c κs = search rules
+multiple-high-requires : tie.Need-multiple-high-requires
+multiple-high-requires c κs = search rules
 
-double-requires : tie.Need-double-requires
-double-requires c κs = search rules
+double-two-requires : tie.Need-double-two-requires
+double-two-requires c κs = search rules
 
-double-requires-2 : tie.Need-double-requires-2
-double-requires-2 c κs = search rules
+double-four-requires : tie.Need-double-four-requires
+double-four-requires c κs = search rules
 
-double-requires-3 : tie.Need-double-requires-3
-double-requires-3 c κs = search rules
+double-eight-requires : tie.Need-double-eight-requires
+double-eight-requires c κs = search rules
 
-multiple-requires-3 : tie.Need-multiple-requires-3
-multiple-requires-3 c κs = search rules
+multiple-low-requires : tie.Need-multiple-low-requires
+multiple-low-requires c κs = search rules
 
 xor-requires : tie.Need-xor-requires
 xor-requires c κs = search rules
 
-returns-2 : tie.Need-returns-2
-returns-2 c =
-    let low : tie.After-multiple3 = c.before in
-    let eight : tie.After-double3 = low.before.before in
-    let high : tie.After-multiple2 = eight.before.before.before in
+returns : tie.Need-returns
+returns c =
+    let low : tie.After-multiple-low = c.before in
+    let eight : tie.After-double-eight = low.before.before in
+    let high : tie.After-multiple-high = eight.before.before.before in
     let s : tie.Start = high.before.before.before.before.before in
     let small : row s / 8 % 8 ≡ row s / 8 = omega (arith, s.requires.2) in
     let J8 = times_block 8 (J_block s) in
     let X = times_block (row s / 8) J8 in
-    let high_is = high.multiple2.ensures ∙ step s (row s / 8) ∙ ap (λ (n : ℕ). columns_of (n · (8 · J s))) small in
-    let two_is = double_of X high_is eight.before.before.double.ensures in
-    let four_is = double_of (double_block X) two_is eight.before.double2.ensures in
-    let eight_is = double_of (double_block (double_block X)) four_is eight.double3.ensures in
-    sum_of (double_block (double_block (double_block X))) (times_block (row s % 8) J8) eight_is (low.multiple3.ensures ∙ step s (row s)) c.xor.ensures
+    let high_is = high.multiple-high.ensures ∙ step s (row s / 8) ∙ ap (λ (n : ℕ). columns_of (n · (8 · J s))) small in
+    let two_is = double_of X high_is eight.double-two.ensures in
+    let four_is = double_of (double_block X) two_is eight.double-four.ensures in
+    let eight_is = double_of (double_block (double_block X)) four_is eight.double-eight.ensures in
+    sum_of (double_block (double_block (double_block X))) (times_block (row s % 8) J8) eight_is (low.multiple-low.ensures ∙ step s (row s)) c.xor.ensures
     ∙ ap columns_of (sym (times_low (row s) (8 · J s) J8) ∙ times_eight (row s) (J s) (J_block s))
 
 pub row_mask_spec : {M : Type 1} → statement M
 row_mask_spec =
     tie.close
     (tie.spec
-    sub-s
+    overflow_sub-s
     multiple-requires
-    returns
-    multiple-requires-2
-    double-requires
-    double-requires-2
-    double-requires-3
-    multiple-requires-3
+    returns-then-s-lt8
+    multiple-high-requires
+    double-two-requires
+    double-four-requires
+    double-eight-requires
+    multiple-low-requires
     xor-requires
-    returns-2)
+    returns)

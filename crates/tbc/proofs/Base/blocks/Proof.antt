@@ -22,15 +22,15 @@ columns w r long words e =
 
 returns : tie.Need-returns
 returns c =
-    let i = c.before.before.crossed in
-    let j = c.before.crossed2 in
-    let l = c.crossed3 in
-    let long_i : length c.before.before.crossed.result ≡ 4 = search rules in
-    let long_j : length c.before.crossed2.result ≡ 4 = search rules in
-    let long_l : length c.crossed3.result ≡ 4 = search rules in
-    let words_i : (n : ℕ) → Fits w32 (get_or c.before.before.crossed.result n 0) = λ n. search rules in
-    let words_j : (n : ℕ) → Fits w32 (get_or c.before.crossed2.result n 0) = λ n. search rules in
-    let words_l : (n : ℕ) → Fits w32 (get_or c.crossed3.result n 0) = λ n. search rules in
+    let i = c.crossed-i in
+    let j = c.crossed-j in
+    let l = c.crossed-l in
+    let long_i : length c.crossed-i.result ≡ 4 = search rules in
+    let long_j : length c.crossed-j.result ≡ 4 = search rules in
+    let long_l : length c.crossed-l.result ≡ 4 = search rules in
+    let words_i : (n : ℕ) → Fits w32 (get_or c.crossed-i.result n 0) = λ n. search rules in
+    let words_j : (n : ℕ) → Fits w32 (get_or c.crossed-j.result n 0) = λ n. search rules in
+    let words_l : (n : ℕ) → Fits w32 (get_or c.crossed-l.result n 0) = λ n. search rules in
     λ t.
     columns _ i.result long_i words_i i.ensures t
     ∷ columns _ j.result long_j words_j j.ensures t

@@ -22,4 +22,6 @@ returns c =
     sym (block_columns digits) ∙ ap columns_of (ap block_of c.crossed.ensures ∙ uncrossed_block _)
 
 pub power_spec : {M : Type 1} → statement M
-power_spec = tie.close (tie.spec (λ c κs. search rules) returns)
+power_spec = tie.close (tie.spec
+    (λ c κs. search rules)
+    returns)
