@@ -4,9 +4,12 @@
 // A vector is five lines. The first has the call, s for sealing, o for opening and h for the log header, and six numbers in hex: the
 // stretch in 16 digits, the bytes of output that are lent and the bytes of four strings in 8 digits each. The strings follow in hex, a line
 // each: key, header, text or sealed string, and an empty one; or nonce, host, collector and locale.
+#![tactic(auto)]
+
 ghost use Rattle.std.specs.Prelude.{◌<◌, ◌≤◌, length};
 
 use answer::{Answer, AnswerAt, StretchBytes};
+use std::io::{self, ErrorKind, Read};
 
 // The value of a hex digit.
 fn nibble(c: u8) -> u8
@@ -59,24 +62,33 @@ fn unhex(s: &mut [u8]) {
     }
 }
 
+// Reads until s is full, and answers whether the input had as many bytes.
+fn read_full(input: &mut impl Read, s: &mut [u8]) -> io::Result<bool> {
+    match input.read_exact(s) {
+        Ok(()) => Ok(true),
+        Err(e) if e.kind() == ErrorKind::UnexpectedEof => Ok(false),
+        Err(e) => Err(e),
+    }
+}
+
 // Reads a line of hex digits for n bytes, which are put into s from there on.
-fn field(n: usize, at: usize, s: &mut [u8]) -> bool {
+fn field(input: &mut impl Read, n: usize, at: usize, s: &mut [u8]) -> io::Result<bool> {
     if 65600 < n {
-        return false;
+        return Ok(false);
     }
     if s.len() < at {
-        return false;
+        return Ok(false);
     }
     let k = 2 * n + 1;
     if s.len() - at < k {
-        return false;
+        return Ok(false);
     }
     let e = at + k;
-    if io::read_full(0, &mut s[at..e]) != k {
-        return false;
+    if !read_full(input, &mut s[at..e])? {
+        return Ok(false);
     }
     unhex(&mut s[at..e]);
-    true
+    Ok(true)
 }
 
 // Puts the hex digits of s into line, as far as it has room, and answers how many they are.
@@ -99,19 +111,16 @@ fn to_hex(s: &[u8], line: &mut [u8]) -> usize
 }
 
 // Writes an answer, and the whole output in hex on the next line.
-fn show(answer: Answer, out: &[u8]) {
-    io::print_hex(1, answer.number as u64, 1);
-    io::write_all(1, b" ");
-    io::print_hex(1, answer.length as u64, 1);
-    io::write_all(1, b"\n");
+fn show(rt: &impl Print, answer: Answer, out: &[u8]) -> io::Result<()> {
+    println!(rt; "{:x} {:x}", answer.number, answer.length)?;
     let mut line = [0u8; 131202];
     let k = to_hex(out, &mut line);
-    io::write_all(1, &line[0..k]);
-    io::write_all(1, b"\n");
+    rt.write_all(&line[0..k])?;
+    rt.write_all(b"\n")
 }
 
 // A vector's first line: the call, the stretch, the bytes of output and of each string.
-#[derive(Drop)]
+#[derive(Clone, Copy)]
 struct First {
     which: u8,
     stretch: u64,
@@ -136,17 +145,17 @@ fn first_line(s: [u8; 64]) -> First {
 }
 
 // Reads the strings of a vector, each to its place; answers whether they were there.
-fn strings(v: First, s: &mut [u8]) -> bool {
-    if !field(v.a, 0, s) {
-        return false;
+fn strings(input: &mut impl Read, v: First, s: &mut [u8]) -> io::Result<bool> {
+    if !field(input, v.a, 0, s)? {
+        return Ok(false);
     }
-    if !field(v.b, 65600, s) {
-        return false;
+    if !field(input, v.b, 65600, s)? {
+        return Ok(false);
     }
-    if !field(v.c, 131200, s) {
-        return false;
+    if !field(input, v.c, 131200, s)? {
+        return Ok(false);
     }
-    field(v.d, 196800, s)
+    field(input, v.d, 196800, s)
 }
 
 // The n bytes of s from there on, or none where s has not as many.
@@ -183,43 +192,45 @@ fn call(v: First, s: &[u8], out: &mut [u8]) -> Answer {
 }
 
 // Makes the call of a vector, and shows what came of it.
-fn answer(v: First, s: &[u8], out: &mut [u8]) {
+fn answer(rt: &impl Print, v: First, s: &[u8], out: &mut [u8]) -> io::Result<()> {
     let r = call(v, s, out);
-    show(r, out);
+    show(rt, r, out)
 }
 
 // The same with so much of an output as the vector asks for; answers whether there is as much.
-fn answer_with_room(v: First, s: &[u8]) -> bool {
+fn answer_with_room(rt: &impl Print, v: First, s: &[u8]) -> io::Result<bool> {
     let room = v.room;
     if 65600 < room {
-        return false;
+        return Ok(false);
     }
     let mut out = [165u8; 65600];
-    answer(v, s, &mut out[0..room]);
-    true
+    answer(rt, v, s, &mut out[0..room])?;
+    Ok(true)
 }
 
 // Reads and runs one vector; answers whether there may be another.
-fn vector() -> bool {
+fn vector(rt: &impl Print, input: &mut impl Read) -> io::Result<bool> {
     let mut first = [0u8; 64];
-    if io::read_full(0, &mut first) != 64 {
-        return false;
+    if !read_full(input, &mut first)? {
+        return Ok(false);
     }
     let v = first_line(first);
     let mut s = [0u8; 328002];
-    if !strings(v, &mut s) {
-        return false;
+    if !strings(input, v, &mut s)? {
+        return Ok(false);
     }
-    answer_with_room(v, &s)
+    answer_with_room(rt, v, &s)
 }
 
 // A proved loop has to end, and nothing says that the input does: the turns are counted.
-fn main() {
+fn main(rt: HostRuntime) -> io::Result<()> {
+    let mut input = rt.reader();
     let mut turns: u32 = 0;
     while turns < 100000 {
-        if !vector() {
-            return;
+        if !vector(&rt, &mut input)? {
+            return Ok(());
         }
         turns += 1;
     }
+    Ok(())
 }
