@@ -16,17 +16,17 @@ use Rattle.groups.proofs.keys.Statement.{statement}
 use Rattle.groups.proofs.keys.Tie as tie
 
 -- the places after the first two keys
-abbrev first : tie.After-copies3 → tie.After-copies
+abbrev first : tie.After-copies-l → tie.After-copies-i
 first c = c.before.before.before.before
 
-abbrev taken : tie.After-copies → tie.After-blocks2
+abbrev taken : tie.After-copies-i → tie.After-blocks-b
 taken c = c.before.before
 
-module _ (c : tie.After-copies3) where
+module _ (c : tie.After-copies-l) where
   -- entry n of the base's columns is that of its block
-  column : (n : ℕ) (X : Bytes) → entry (columns_of (base (taken (first c)).before.args.k).I ∷ columns_of (base (taken (first c)).before.args.k).J ∷ columns_of (base (taken (first c)).before.args.k).L ∷ []) n ≡ columns_of X
-      → entry (taken (first c)).blocks2.result n ≡ columns_of X
-  column n X e = ap (λ (l : List (List ℕ)). entry l n) (taken (first c)).blocks2.ensures ∙ e
+  column : (n : ℕ) (X : Bytes) → entry (columns_of (base (taken (first c)).args.k).I ∷ columns_of (base (taken (first c)).args.k).J ∷ columns_of (base (taken (first c)).args.k).L ∷ []) n ≡ columns_of X
+      → entry (taken (first c)).blocks-b.result n ≡ columns_of X
+  column n X e = ap (λ (l : List (List ℕ)). entry l n) (taken (first c)).blocks-b.ensures ∙ e
 
 -- a block that was put into every place, at one of them
 held : (s q : List ℕ) (X : Bytes) → Block X → s ≡ columns_of X → plane_blocks q ≡ map (λ b. block_of s) (up_to 16) → (i : ℕ) → i < 16 → plane_block q (place_of i) ≡ X
@@ -35,11 +35,11 @@ held s q X bytes e h i b = at_block q (λ n. block_of s) h i b ∙ made bytes e
 returns : tie.Need-returns
 unfolding key_for keys_of
 returns c =
-    let K = base (taken (first c)).before.args.k in
-    let bytes = base_bytes (taken (first c)).before.args.k in
-    let i = (first c).copies in
-    let j = c.before.before.copies2 in
-    let l = c.copies3 in
+    let K = base (taken (first c)).args.k in
+    let bytes = base_bytes (taken (first c)).args.k in
+    let i = (first c).copies-i in
+    let j = c.copies-j in
+    let l = c.copies-l in
     let is-i = column c 0 K.I refl in
     let is-j = column c 1 K.J refl in
     let is-l = column c 2 K.L refl in (

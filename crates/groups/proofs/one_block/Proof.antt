@@ -16,17 +16,22 @@ use Rattle.groups.proofs.one_block.Tie as tie
 picked : (s : Bytes) (at : ℕ) (t : Bool) → ltb (length s) (at + 16) ≡ t → loaded s at ≡ (if t then columns_of zeros else columns_of (take 16 (drop at s)))
 picked s at t e = ap (λ (u : Bool). if u then columns_of zeros else columns_of (take 16 (drop at s))) e
 
+returns-then-s-at : tie.Need-returns-then-s-at
+returns-then-s-at c =
+    let a = c.args in
+    sym (picked a.s.now a.at true (lt-ltb (length a.s.now) (a.at + 16) c.if-s-at.true))
+
 returns : tie.Need-returns
 returns c =
-    let a = c.before.before.args in
-    sym (picked a.s.now a.at true (lt-ltb (length a.s.now) (a.at + 16) c.if1.true))
-
-returns-2 : tie.Need-returns-2
-returns-2 c =
-    let a = c.before.before.before.before.args in
-    c.of-block.ensures
-    ∙ ap columns_of c.before.load.ensures
-    ∙ sym (picked a.s.now a.at false (le-ltb (length a.s.now) (a.at + 16) c.before.before.if1.false))
+    let a = c.args in
+    c.of_block.ensures
+    ∙ ap columns_of c.load-x.ensures
+    ∙ sym (picked a.s.now a.at false (le-ltb (length a.s.now) (a.at + 16) c.if-s-at.false))
 
 pub one_block_spec : {M : Type 1} → statement M
-one_block_spec = tie.close (tie.spec (λ c. search rules) returns (λ c κs. search rules) (λ c κs. search rules) returns-2)
+one_block_spec = tie.close (tie.spec
+    (λ c. search rules)
+    returns-then-s-at
+    (λ c κs. search rules)
+    (λ c κs. search rules)
+    returns)

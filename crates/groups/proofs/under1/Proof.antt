@@ -9,7 +9,7 @@ use Rattle.groups.proofs.under1.Statement.{statement}
 use Rattle.groups.proofs.under1.Tie as tie
 
 abbrev start : tie.After-aes4 → tie.Start
-start c = c.before.before.before.before.before
+start c = c.before
 
 returns : tie.Need-returns
 unfolding key_for
@@ -19,4 +19,10 @@ returns c =
     c.aes4.ensures ∙ ended (λ Z i. zeros ∷ (key_for w i).J ∷ (key_for w i).L ∷ (key_for w i).I ∷ Z ∷ []) w a.g.now (start c).requires
 
 pub under1_spec : {M : Type 1} → statement M
-under1_spec = tie.close (tie.spec (λ c. search rules) (λ c. search rules) (λ c. search rules) (λ c. search rules) (λ c κs. search rules) returns)
+under1_spec = tie.close (tie.spec
+    (λ c. search rules)
+    (λ c. search rules)
+    (λ c. search rules)
+    (λ c. search rules)
+    (λ c κs. search rules)
+    returns)

@@ -14,37 +14,37 @@ use Rattle.groups.proofs.xor.Tie as tie
 abbrev sums : List (List ℕ) → List (List ℕ) → ℕ → List ℕ
 sums a b i = columns_of (block_of (entry a i) ⊕ block_of (entry b i))
 
-abbrev invariant-loop : tie.invariant-loop
-invariant-loop a b r₀ i₀ r i = Filled (sums a b) r i
+abbrev invariant-loop-i : tie.invariant-loop-i
+invariant-loop-i a b r₀ i₀ r i = Filled (sums a b) r i
 
-abbrev decreases-loop : tie.decreases-loop
-decreases-loop a b r₀ i₀ r i = 16 - i
+abbrev decreases-loop-i : tie.decreases-loop-i
+decreases-loop-i a b r₀ i₀ r i = 16 - i
 
-loop-holds : tie.Need-loop-init invariant-loop decreases-loop
-loop-holds c = filled_none (sums c.args.a.now c.args.b.now) _ refl
+loop-i-init : tie.Need-loop-i-init invariant-loop-i decreases-loop-i
+loop-i-init c = filled_none (sums c.args.a.now c.args.b.now) _ refl
 
-abbrev turn : tie.After-xor invariant-loop decreases-loop → tie.At-loop invariant-loop decreases-loop
+abbrev turn : tie.After-xor-x invariant-loop-i decreases-loop-i → tie.At-loop-i invariant-loop-i decreases-loop-i
 turn c = c.before.before.before.before
 
-loop-again : tie.Need-loop-preserved invariant-loop decreases-loop
-loop-again c =
-    let l = (turn c).loop in
-    let a = (turn c).before.args in
-    filled_more (sums a.a.now a.b.now) l.r l.i c.xor.result l.invariant (omega arith) c.xor.ensures
+loop-i-preserved : tie.Need-loop-i-preserved invariant-loop-i decreases-loop-i
+loop-i-preserved c =
+    let l = (turn c).loop-i in
+    let a = (turn c).args in
+    filled_more (sums a.a.now a.b.now) l.r l.i c.xor-x.result l.invariant (omega arith) c.xor-x.ensures
 
-returns : tie.Need-returns invariant-loop decreases-loop
+returns : tie.Need-returns invariant-loop-i decreases-loop-i
 returns c =
-    let l = c.before.loop in
-    let a = c.before.before.args in
+    let l = c.loop-i in
+    let a = c.args in
     filled_all (sums a.a.now a.b.now) l.r l.i l.invariant (omega arith)
 
 pub xor_spec : {M : Type 1} → statement M
 xor_spec =
     tie.close
     (tie.spec
-    invariant-loop
-    decreases-loop
-    loop-holds
+    invariant-loop-i
+    decreases-loop-i
+    loop-i-init
     (λ c. search rules)
     (λ c. search rules)
     (λ c. search rules)
@@ -54,5 +54,5 @@ xor_spec =
     (λ c. search rules)
     (λ c. search rules)
     (λ c. search rules)
-    loop-again
+    loop-i-preserved
     returns)

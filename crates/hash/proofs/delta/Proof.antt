@@ -22,52 +22,52 @@ use Rattle.strings.proofs.Waits.{first_string, so_short}
 use Rattle.hash.proofs.delta.Statement.{statement}
 use Rattle.hash.proofs.delta.Tie as tie
 
-abbrev invariant-loop : tie.invariant-loop
-invariant-loop k h count b m g₀ hashed₀ at₀ i₀ left₀ g hashed at i left =
+abbrev invariant-loop-left : tie.invariant-loop-left
+invariant-loop-left k h count b m g₀ hashed₀ at₀ i₀ left₀ g hashed at i left =
     (at ≤ length h) × (i + left ≡ left₀ + 2) × (left ≤ left₀) × (left₀ ≤ 16) × (summed (E (blocks k)) h (so_far (blocks k) g₀ hashed₀) at₀ i₀ left₀ ≡ summed (E (blocks k)) h (so_far (blocks k) g hashed) at i left) × Fits g hashed
 
-abbrev decreases-loop : tie.decreases-loop
-decreases-loop k h count b m g₀ hashed₀ at₀ i₀ left₀ g hashed at i left = left
+abbrev decreases-loop-left : tie.decreases-loop-left
+decreases-loop-left k h count b m g₀ hashed₀ at₀ i₀ left₀ g hashed at i left = left
 
 -- ---- Where the count is read
 
-abbrev start : tie.After-count invariant-loop decreases-loop → tie.Start invariant-loop decreases-loop
+abbrev start : tie.After-count invariant-loop-left decreases-loop-left → tie.Start invariant-loop-left decreases-loop-left
 start c = c.before.before
 
-abbrev entered : tie.After-count2 invariant-loop decreases-loop → tie.Start invariant-loop decreases-loop
-entered c = start c.before.before
+abbrev entered : tie.In-Strings invariant-loop-left decreases-loop-left → tie.Start invariant-loop-left decreases-loop-left
+entered c = start c.before
 
-module _ (c : tie.After-count2 invariant-loop decreases-loop) where
+module _ (c : tie.In-Strings invariant-loop-left decreases-loop-left) where
   abbrev count : ℕ
-  count = c.count2.given.0.0
+  count = c.in-Strings.count
 
   is_count : Strings count ≡ count_of (entered c).args.h.now
-  is_count = rw c.count2.given.1 at c.before.before.count.ensures.0
+  is_count = rw c.in-Strings.is at c.count.ensures.0
 
   is_few : Few (Strings count) (entered c).args.h.now
-  is_few = rw c.count2.given.1 at c.before.before.count.ensures.1
+  is_few = rw c.in-Strings.is at c.count.ensures.1
 
 -- ---- What is taken out of the key, and the stretch
 
-abbrev counted : tie.After-base invariant-loop decreases-loop → tie.After-count2 invariant-loop decreases-loop
-counted c = c.before.before
+abbrev counted : tie.After-base-b invariant-loop-left decreases-loop-left → tie.In-Strings invariant-loop-left decreases-loop-left
+counted c = c.before
 
-abbrev multiplied : tie.After-number invariant-loop decreases-loop → tie.After-multiples invariant-loop decreases-loop
+abbrev multiplied : tie.After-number-bits invariant-loop-left decreases-loop-left → tie.After-multiples-m invariant-loop-left decreases-loop-left
 multiplied c = c.before.before
 
-abbrev taken : tie.After-number invariant-loop decreases-loop → tie.After-base invariant-loop decreases-loop
+abbrev taken : tie.After-number-bits invariant-loop-left decreases-loop-left → tie.After-base-b invariant-loop-left decreases-loop-left
 taken c = (multiplied c).before
 
-abbrev numbered : tie.After-g invariant-loop decreases-loop → tie.After-number invariant-loop decreases-loop
+abbrev numbered : tie.After-g-1 invariant-loop-left decreases-loop-left → tie.After-number-bits invariant-loop-left decreases-loop-left
 numbered c = c.before.before.before
 
 -- ---- In the loop
 
-abbrev begin : tie.At-loop invariant-loop decreases-loop → tie.After-number invariant-loop decreases-loop
+abbrev begin : tie.At-loop-left invariant-loop-left decreases-loop-left → tie.After-number-bits invariant-loop-left decreases-loop-left
 begin c = numbered c.before.before
 
-module _ (c : tie.At-loop invariant-loop decreases-loop) where
-  abbrev S₀ : tie.Start invariant-loop decreases-loop
+module _ (c : tie.At-loop-left invariant-loop-left decreases-loop-left) where
+  abbrev S₀ : tie.Start invariant-loop-left decreases-loop-left
   S₀ = entered (counted (taken (begin c)))
 
   abbrev K : figure6.Key
@@ -84,139 +84,139 @@ module _ (c : tie.At-loop invariant-loop decreases-loop) where
 
   -- what is hashed so far
   abbrev so : Bytes
-  so = so_far K c.loop.g c.loop.hashed
+  so = so_far K c.loop-left.g c.loop-left.hashed
 
   -- Δ is what is hashed and what is left
-  so_far_lem : delta_of F τ (read_header h) ≡ summed F h so c.loop.at c.loop.i c.loop.left
+  so_far_lem : delta_of F τ (read_header h) ≡ summed F h so c.loop-left.at c.loop-left.i c.loop-left.left
   so_far_lem =
       let n = counted (taken (begin c)) in
-      begun F h τ (count n) _ (is_count n) (first_string K _ F τ (begin c).before.nothing.ensures c.before.add-string.ensures.1 (begin c).number.ensures) ∙ c.loop.invariant.4
+      begun F h τ (count n) _ (is_count n) (first_string K _ F τ (begin c).nothing-none.ensures c.add_string-hashed.ensures.1 (begin c).number-bits.ensures) ∙ c.loop-left.invariant.4
 
   -- the base has the key's blocks
-  is_base : base (taken (begin c)).base.result ≡ K
-  is_base = has_blocks S₀.args.k _ S₀.good.0 (taken (begin c)).base.result (taken (begin c)).base.ensures
+  is_base : base (taken (begin c)).base-b.result ≡ K
+  is_base = has_blocks S₀.args.k _ S₀.well_formed.0 (taken (begin c)).base-b.result (taken (begin c)).base-b.ensures
 
 -- an entry that reads
-abbrev looped : tie.After-start invariant-loop decreases-loop → tie.At-loop invariant-loop decreases-loop
-looped c = c.before.before.before.before
+abbrev looped : tie.In-At invariant-loop-left decreases-loop-left → tie.At-loop-left invariant-loop-left decreases-loop-left
+looped c = c.before.before.before
 
-module _ (c : tie.After-start invariant-loop decreases-loop) where
+module _ (c : tie.In-At invariant-loop-left decreases-loop-left) where
   abbrev from : ℕ
-  from = c.start.given.0.0
+  from = c.in-At.start
 
   abbrev to : ℕ
-  to = c.start.given.0.1.0
+  to = c.in-At.end
 
-  is_entry : At from to ≡ entry_at (h (looped c)) (looped c).loop.at
-  is_entry = rw c.start.given.1 at c.before.before.entry.ensures.0
+  is_entry : At from to ≡ entry_at (h (looped c)) (looped c).loop-left.at
+  is_entry = rw c.in-At.is at c.entry.ensures.0
 
   is_within : Within (At from to) (h (looped c))
-  is_within = rw c.start.given.1 at c.before.before.entry.ensures.1
+  is_within = rw c.in-At.is at c.entry.ensures.1
 
-returns : tie.Need-returns invariant-loop decreases-loop
-returns c =
-    let r = c.before.before in
+returns-in_default : tie.Need-returns-in_default invariant-loop-left decreases-loop-left
+returns-in_default c =
+    let r = c.before in
     let a = (start r).args in
-    not_counted (E (blocks a.k)) a.h.now a.stretch.0 _ (rw c.enum_told.given.1 at r.count.ensures.0)
+    not_counted (E (blocks a.k)) a.h.now a.stretch.0 _ (rw c.in_default.is at r.count.ensures.0)
 
-add-string-requires : tie.Need-add-string-requires invariant-loop decreases-loop
-add-string-requires c κs =
+add_string-hashed-requires : tie.Need-add_string-hashed-requires invariant-loop-left decreases-loop-left
+add_string-hashed-requires c κs =
     let n = numbered c in
     let s = entered (counted (taken n)) in
-    let none = ap (λ (s : Sum). s.waiting) n.before.nothing.ensures in
-    (s.pre, (taken n).base.ensures, (multiplied n).multiples.ensures, omega arith, omega arith, search rules, record { long = refl; few = omega arith })
+    let none = ap (λ (s : Sum). s.waiting) n.nothing-none.ensures in
+    (s.requires, (taken n).base-b.ensures, (multiplied n).multiples-m.ensures, omega arith, omega arith, search rules, record { long = refl; few = omega arith })
 
-loop-holds : tie.Need-loop-init invariant-loop decreases-loop
-loop-holds c =
+loop-left-init : tie.Need-loop-left-init invariant-loop-left decreases-loop-left
+loop-left-init c =
     let few = is_few (counted (taken (numbered c.before))) in
-    (few.1, omega arith, omega arith, few.0, refl, c.add-string.ensures.0)
+    (few.1, omega arith, omega arith, few.0, refl, c.add_string-hashed.ensures.0)
 
-returns-2 : tie.Need-returns-2 invariant-loop decreases-loop
-returns-2 c =
-    let p = c.before.before in
+returns-in_default-entry : tie.Need-returns-in_default-entry invariant-loop-left decreases-loop-left
+returns-in_default-entry c =
+    let p = c.before in
     let s = p.before.before in
-    let l = s.loop in
-    sym (so_far_lem s ∙ stop (F s) (h s) (so s) l.at l.i l.left p.before.loop-test.true (rw c.enum-told2.given.1 at p.entry.ensures.0))
+    let l = s.loop-left in
+    sym (so_far_lem s ∙ stop (F s) (h s) (so s) l.at l.i l.left p.loop-left-test.true (rw c.in_default-entry.is at p.entry.ensures.0))
 
 -- the part of an entry is lent
-abbrev read : tie.After-m2 invariant-loop decreases-loop → tie.After-start invariant-loop decreases-loop
-read c = c.before.before
+abbrev read : tie.After-m-in-loop-left-1 invariant-loop-left decreases-loop-left → tie.In-At invariant-loop-left decreases-loop-left
+read c = c.before
 
-add-string-requires-2 : tie.Need-add-string-requires-2 invariant-loop decreases-loop
-add-string-requires-2 c κs =
+add_string-more-requires : tie.Need-add_string-more-requires invariant-loop-left decreases-loop-left
+add_string-more-requires c κs =
     let p = read c.before.before in
     let w = is_within p in
     let s = looped p in
-    let l = s.loop in (
-      (S₀ s).pre,
-      (taken (begin s)).base.ensures,
-      (multiplied (begin s)).multiples.ensures,
+    let l = s.loop-left in (
+      (S₀ s).requires,
+      (taken (begin s)).base-b.ensures,
+      (multiplied (begin s)).multiples-m.ensures,
       omega (arith, l.invariant.1),
       omega (arith, l.invariant.1),
       simp (length-take, length-drop) (omega (arith, w.0, w.1, w.2)),
       l.invariant.5,
     )
 
-loop-again : tie.Need-loop-preserved invariant-loop decreases-loop
-loop-again c =
+loop-left-preserved : tie.Need-loop-left-preserved invariant-loop-left decreases-loop-left
+loop-left-preserved c =
     let p = read c.before.before.before in
     let s = looped p in
-    let l = s.loop in (
+    let l = s.loop-left in (
       (is_within p).1,
       omega (arith, l.invariant.1),
       omega arith,
       l.invariant.3,
-      l.invariant.4 ∙ turn (F s) (h s) (so s) l.at l.i l.left (from p) (to p) _ (omega (arith, l.invariant.1, l.invariant.2)) (omega arith) (is_entry p) c.add-string2.ensures.1,
-      c.add-string2.ensures.0,
+      l.invariant.4 ∙ turn (F s) (h s) (so s) l.at l.i l.left (from p) (to p) _ (omega (arith, l.invariant.1, l.invariant.2)) (omega arith) (is_entry p) c.add_string-more.ensures.1,
+      c.add_string-more.ensures.0,
     )
 
-returns-3 : tie.Need-returns-3 invariant-loop decreases-loop
-returns-3 c =
+returns-then-at-h : tie.Need-returns-then-at-h invariant-loop-left decreases-loop-left
+returns-then-at-h c =
     let s = c.before.before in
-    let l = s.loop in
-    sym (so_far_lem s ∙ over (F s) (h s) (so s) l.at l.i l.left c.before.loop-test.false (omega arith))
+    let l = s.loop-left in
+    sym (so_far_lem s ∙ over (F s) (h s) (so s) l.at l.i l.left c.loop-left-test.false (omega arith))
 
-hashed-requires : tie.Need-hashed-requires invariant-loop decreases-loop
-hashed-requires c κs = c.before.before.before.loop.invariant.5
+hashed-requires : tie.Need-hashed-requires invariant-loop-left decreases-loop-left
+hashed-requires c κs = c.loop-left.invariant.5
 
-returns-4 : tie.Need-returns-4 invariant-loop decreases-loop
-returns-4 c =
+returns : tie.Need-returns invariant-loop-left decreases-loop-left
+returns c =
     let e = c.before.before in
     let s = e.before.before in
-    let l = s.loop in
+    let l = s.loop-left in
     c.hashed.ensures
     ∙ ap (λ (K : figure6.Key). so_far K l.g l.hashed) (is_base s)
-    ∙ sym (so_far_lem s ∙ good (F s) (h s) (so s) l.at l.i l.left e.before.loop-test.false e.if1.false (so_short (k0 (K s)) l.g l.hashed.waiting l.hashed.total))
+    ∙ sym (so_far_lem s ∙ good (F s) (h s) (so s) l.at l.i l.left e.loop-left-test.false e.if-at-h.false (so_short (k0 (K s)) l.g l.hashed.waiting l.hashed.total))
 
 pub delta_spec : {M : Type 1} → statement M
 delta_spec =
     tie.close
     (tie.spec
-    invariant-loop
-    decreases-loop
+    invariant-loop-left
+    decreases-loop-left
     (λ c κs. search rules)
     (λ c. search rules)
     (λ c. search rules)
-    returns
+    returns-in_default
     (λ c κs. search rules)
     (λ c κs. search rules)
     (λ c κs. search rules)
     (λ c κs. search rules)
     (λ c. search rules)
-    add-string-requires
-    loop-holds
+    add_string-hashed-requires
+    loop-left-init
     (λ c κs. search rules)
     (λ c. search rules)
     (λ c. search rules)
-    returns-2
+    returns-in_default-entry
     (λ c. (is_within (read c)).0)
     (λ c. (is_within (read c)).0)
     (λ c. (is_within (read c)).1)
-    add-string-requires-2
+    add_string-more-requires
     (λ c. search rules)
     (λ c. search rules)
     (λ c. search rules)
-    loop-again
-    returns-3
+    loop-left-preserved
+    returns-then-at-h
     hashed-requires
-    returns-4)
+    returns)

@@ -19,114 +19,114 @@ use Rattle.hash.proofs.prf.Tie as tie
 abbrev F : Base → Bytes → ℕ → Bytes
 F b delta i = E (base b) minus1 3 (delta ⊕ number (i - 1))
 
-abbrev invariant-loop : tie.invariant-loop
-invariant-loop delta out₀ b m at₀ i₀ out at i = Filled (F b delta) (length out₀) out at i
+abbrev invariant-loop-at : tie.invariant-loop-at
+invariant-loop-at delta out₀ b m at₀ i₀ out at i = Filled (F b delta) (length out₀) out at i
 
-abbrev decreases-loop : tie.decreases-loop
-decreases-loop delta out₀ b m at₀ i₀ out at i = length out₀ + 16 - at
+abbrev decreases-loop-at : tie.decreases-loop-at
+decreases-loop-at delta out₀ b m at₀ i₀ out at i = length out₀ + 16 - at
 
-abbrev taken : tie.At-loop invariant-loop decreases-loop → tie.After-base invariant-loop decreases-loop
+abbrev taken : tie.At-loop-at invariant-loop-at decreases-loop-at → tie.After-base-b invariant-loop-at decreases-loop-at
 taken c = c.before.before
 
-abbrev start : tie.At-loop invariant-loop decreases-loop → tie.Start invariant-loop decreases-loop
+abbrev start : tie.At-loop-at invariant-loop-at decreases-loop-at → tie.Start invariant-loop-at decreases-loop-at
 start c = (taken c).before.before
 
-abbrev looped : tie.After-e invariant-loop decreases-loop → tie.At-loop invariant-loop decreases-loop
+abbrev looped : tie.After-e-y invariant-loop-at decreases-loop-at → tie.At-loop-at invariant-loop-at decreases-loop-at
 looped c = c.before.before.before.before.before
 
 -- the block that E gave
-is_next : (c : tie.After-e invariant-loop decreases-loop) → c.e.result ≡ F (taken (looped c)).base.result (start (looped c)).args.delta ((looped c).loop.i + 1)
+is_next : (c : tie.After-e-y invariant-loop-at decreases-loop-at) → c.e-y.result ≡ F (taken (looped c)).base-b.result (start (looped c)).args.delta ((looped c).loop-at.i + 1)
 is_next c =
-    let i = (looped c).loop.i in
+    let i = (looped c).loop-at.i in
     let a = (start (looped c)).args in
     let next : i ≡ i + 1 - 1 = omega arith in
     let x = c.before.before in
-    let mask = x.xor.ensures ∙ ap (λ (u : Bytes). a.delta ⊕ u) (x.before.number.ensures ∙ ap number next) in
-    c.e.ensures ∙ ap (E (base (taken (looped c)).base.result) minus1 3) mask
+    let mask = x.xor-x.ensures ∙ ap (λ (u : Bytes). a.delta ⊕ u) (x.number-n.ensures ∙ ap number next) in
+    c.e-y.ensures ∙ ap (E (base (taken (looped c)).base-b.result) minus1 3) mask
 
 -- the base has the key's blocks
-is_base : (c : tie.At-loop invariant-loop decreases-loop) → base (taken c).base.result ≡ blocks (start c).args.k
-is_base c = has_blocks (start c).args.k _ (start c).well-formed.0 (taken c).base.result (taken c).base.ensures
+is_base : (c : tie.At-loop-at invariant-loop-at decreases-loop-at) → base (taken c).base-b.result ≡ blocks (start c).args.k
+is_base c = has_blocks (start c).args.k _ (start c).well_formed.0 (taken c).base-b.result (taken c).base-b.ensures
 
-base-requires : tie.Need-base-requires invariant-loop decreases-loop
-base-requires c κs = search rules
+base-b-requires : tie.Need-base-b-requires invariant-loop-at decreases-loop-at
+base-b-requires c κs = search rules
 
-multiples-requires : tie.Need-multiples-requires invariant-loop decreases-loop
-multiples-requires c κs = search rules
+multiples-m-requires : tie.Need-multiples-m-requires invariant-loop-at decreases-loop-at
+multiples-m-requires c κs = search rules
 
-loop-holds : tie.Need-loop-init invariant-loop decreases-loop
-loop-holds c = let a = c.before.before.before.args in filled_none (F c.before.base.result a.delta) a.out.now
+loop-at-init : tie.Need-loop-at-init invariant-loop-at decreases-loop-at
+loop-at-init c = let a = c.args in filled_none (F c.base-b.result a.delta) a.out.now
 
-number-requires : tie.Need-number-requires invariant-loop decreases-loop
-number-requires c κs = search rules
+number-n-requires : tie.Need-number-n-requires invariant-loop-at decreases-loop-at
+number-n-requires c κs = search rules
 
-xor-requires : tie.Need-xor-requires invariant-loop decreases-loop
-xor-requires c κs = search rules
+xor-x-requires : tie.Need-xor-x-requires invariant-loop-at decreases-loop-at
+xor-x-requires c κs = search rules
 
-e-requires : tie.Need-e-requires invariant-loop decreases-loop
-e-requires c κs =
+e-y-requires : tie.Need-e-y-requires invariant-loop-at decreases-loop-at
+e-y-requires c κs =
     let l = c.before.before.before.before in
-    let b = (taken l).base in
-    let m = l.before.multiples in
+    let b = (taken l).base-b in
+    let m = l.multiples-m in
     (omega arith, of_j (start l).args.k b.result m.result (is_base l) m.ensures)
 
-sub-put-front : tie.Need-overflow-sub-put-front invariant-loop decreases-loop
-sub-put-front c = search rules
+slice_bounds-put_front-count : tie.Need-slice_bounds-put_front-count invariant-loop-at decreases-loop-at
+slice_bounds-put_front-count c = search rules
 
-part-put-front-start : tie.Need-slice-bounds-put-front-start invariant-loop decreases-loop
-part-put-front-start c = search rules
+slice_bounds-put_front-start : tie.Need-slice_bounds-put_front-start invariant-loop-at decreases-loop-at
+slice_bounds-put_front-start c = search rules
 
-part-put-front-end : tie.Need-slice-bounds-put-front-end invariant-loop decreases-loop
-part-put-front-end c = search rules
+slice_bounds-put_front-end : tie.Need-slice_bounds-put_front-end invariant-loop-at decreases-loop-at
+slice_bounds-put_front-end c = search rules
 
-put-front-requires : tie.Need-put-front-requires invariant-loop decreases-loop
-put-front-requires c κs = search rules
+put_front-requires : tie.Need-put_front-requires invariant-loop-at decreases-loop-at
+put_front-requires c κs = search rules
 
-add_at : tie.Need-overflow-add-at invariant-loop decreases-loop
-add_at c = search rules
+overflow_add-at : tie.Need-overflow_add-at invariant-loop-at decreases-loop-at
+overflow_add-at c = search rules
 
-add-i : tie.Need-overflow-add-i invariant-loop decreases-loop
-add-i c = search rules
+overflow_add-i : tie.Need-overflow_add-i invariant-loop-at decreases-loop-at
+overflow_add-i c = search rules
 
-loop-less : tie.Need-loop-smaller invariant-loop decreases-loop
-loop-less c = search rules
+loop-at-smaller : tie.Need-loop-at-smaller invariant-loop-at decreases-loop-at
+loop-at-smaller c = search rules
 
-loop-again : tie.Need-loop-preserved invariant-loop decreases-loop
-loop-again c =
+loop-at-preserved : tie.Need-loop-at-preserved invariant-loop-at decreases-loop-at
+loop-at-preserved c =
     let put = c.before.before in
     let e = put.before.before in
-    filled_more (looped e).loop.invariant e.e.result _ (omega arith) (search rules) (is_next e) put.put_front.ensures
+    filled_more (looped e).loop-at.invariant e.e-y.result _ (omega arith) (search rules) (is_next e) put.put_front.ensures
 
-same_length : tie.Need-same-length invariant-loop decreases-loop
-same_length c = c.before.loop.invariant.long
+shape_of-out : tie.Need-shape_of-out invariant-loop-at decreases-loop-at
+shape_of-out c = c.loop-at.invariant.long
 
-returns : tie.Need-returns invariant-loop decreases-loop
+returns : tie.Need-returns invariant-loop-at decreases-loop-at
 unfolding prf_from
 returns c =
     let l = c.before in
     let a = (start l).args in
-    filled_all l.loop.invariant (omega arith)
+    filled_all l.loop-at.invariant (omega arith)
     ∙ ap (λ (K : figure6.Key). prf_from (E K) a.delta (length a.out.now)) (is_base l)
 
 pub prf_spec : {M : Type 1} → statement M
 prf_spec =
     tie.close
     (tie.spec
-    invariant-loop
-    decreases-loop
-    base-requires
-    multiples-requires
-    loop-holds
-    number-requires
-    xor-requires
-    e-requires
-    sub-put-front
-    part-put-front-start
-    part-put-front-end
-    put-front-requires
-    add_at
-    add-i
-    loop-less
-    loop-again
-    same_length
+    invariant-loop-at
+    decreases-loop-at
+    base-b-requires
+    multiples-m-requires
+    loop-at-init
+    number-n-requires
+    xor-x-requires
+    e-y-requires
+    slice_bounds-put_front-count
+    slice_bounds-put_front-start
+    slice_bounds-put_front-end
+    put_front-requires
+    overflow_add-at
+    overflow_add-i
+    loop-at-smaller
+    loop-at-preserved
+    shape_of-out
     returns)

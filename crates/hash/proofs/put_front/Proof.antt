@@ -10,67 +10,67 @@ use Rattle.hash.specs.Fitted.{fitted}
 use Rattle.hash.proofs.put_front.Statement.{statement}
 use Rattle.hash.proofs.put_front.Tie as tie
 
-abbrev invariant-loop : tie.invariant-loop
-invariant-loop s₀ y n i₀ s i = (i ≤ n) × (s ≡ take i y ++ drop i s₀) × (length s ≡ length s₀)
+abbrev invariant-loop-i : tie.invariant-loop-i
+invariant-loop-i s₀ y n i₀ s i = (i ≤ n) × (s ≡ take i y ++ drop i s₀) × (length s ≡ length s₀)
 
-abbrev decreases-loop : tie.decreases-loop
-decreases-loop s₀ y n i₀ s i = n - i
+abbrev decreases-loop-i : tie.decreases-loop-i
+decreases-loop-i s₀ y n i₀ s i = n - i
 
-abbrev start : tie.At-loop invariant-loop decreases-loop → tie.Start invariant-loop decreases-loop
+abbrev start : tie.At-loop-i invariant-loop-i decreases-loop-i → tie.Start invariant-loop-i decreases-loop-i
 start c = c.before.before.before
 
-least-requires : tie.Need-least-requires invariant-loop decreases-loop
-least-requires c κs = search rules
+least-n-requires : tie.Need-least-n-requires invariant-loop-i decreases-loop-i
+least-n-requires c κs = search rules
 
-loop-holds : tie.Need-loop-init invariant-loop decreases-loop
-loop-holds c = (omega arith, refl, refl)
+loop-i-init : tie.Need-loop-i-init invariant-loop-i decreases-loop-i
+loop-i-init c = (omega arith, refl, refl)
 
-array-read-s : tie.Need-array-read-s invariant-loop decreases-loop
-array-read-s c = omega (arith, c.before.before.least.ensures)
+bounds-y-i : tie.Need-bounds-y-i invariant-loop-i decreases-loop-i
+bounds-y-i c = omega (arith, c.least-n.ensures)
 
-slice-write-s : tie.Need-slice-write-s invariant-loop decreases-loop
-slice-write-s c = omega (arith, c.before.before.least.ensures, c.before.loop.invariant.2)
+bounds-s-i : tie.Need-bounds-s-i invariant-loop-i decreases-loop-i
+bounds-s-i c = omega (arith, c.least-n.ensures, c.loop-i.invariant.2)
 
-add-i : tie.Need-overflow-add-i invariant-loop decreases-loop
-add-i c = search rules
+overflow_add-i : tie.Need-overflow_add-i invariant-loop-i decreases-loop-i
+overflow_add-i c = search rules
 
-loop-less : tie.Need-loop-smaller invariant-loop decreases-loop
-loop-less c = search rules
+loop-i-smaller : tie.Need-loop-i-smaller invariant-loop-i decreases-loop-i
+loop-i-smaller c = search rules
 
-loop-again : tie.Need-loop-preserved invariant-loop decreases-loop
-loop-again c =
-    let l = c.before.loop in
+loop-i-preserved : tie.Need-loop-i-preserved invariant-loop-i decreases-loop-i
+loop-i-preserved c =
+    let l = c.loop-i in
     let a = (start c.before).args in
-    let n = c.before.before.least.ensures in
-    let long : length a.t2 ≡ 16 = search rules in (
+    let n = c.least-n.ensures in
+    let long : length a.y ≡ 16 = search rules in (
       omega arith,
-      over_more a.s.now a.t2 l.s l.i (get_or a.t2 l.i 0) (omega (arith, n)) (omega (arith, n)) refl l.invariant.1,
-      length-set l.s l.i (get_or a.t2 l.i 0) ∙ l.invariant.2,
+      over_more a.s.now a.y l.s l.i (get_or a.y l.i 0) (omega (arith, n)) (omega (arith, n)) refl l.invariant.1,
+      length-set l.s l.i (get_or a.y l.i 0) ∙ l.invariant.2,
     )
 
-same_length : tie.Need-same-length invariant-loop decreases-loop
-same_length c = c.before.loop.invariant.2
+shape_of-s : tie.Need-shape_of-s invariant-loop-i decreases-loop-i
+shape_of-s c = c.loop-i.invariant.2
 
-returns : tie.Need-returns invariant-loop decreases-loop
+returns : tie.Need-returns invariant-loop-i decreases-loop-i
 unfolding fitted
 returns c =
-    let l = c.before.loop in
+    let l = c.loop-i in
     let a = (start c.before).args in
-    let done : l.i ≡ min (length a.s.now) 16 = omega (arith, c.before.before.least.ensures) in
-    l.invariant.1 ∙ ap (λ (k : ℕ). take k a.t2 ++ drop k a.s.now) done
+    let done : l.i ≡ min (length a.s.now) 16 = omega (arith, c.least-n.ensures) in
+    l.invariant.1 ∙ ap (λ (k : ℕ). take k a.y ++ drop k a.s.now) done
 
 pub put_front_spec : {M : Type 1} → statement M
 put_front_spec =
     tie.close
     (tie.spec
-    invariant-loop
-    decreases-loop
-    least-requires
-    loop-holds
-    array-read-s
-    slice-write-s
-    add-i
-    loop-less
-    loop-again
-    same_length
+    invariant-loop-i
+    decreases-loop-i
+    least-n-requires
+    loop-i-init
+    bounds-y-i
+    bounds-s-i
+    overflow_add-i
+    loop-i-smaller
+    loop-i-preserved
+    shape_of-s
     returns)

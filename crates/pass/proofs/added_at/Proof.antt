@@ -11,23 +11,27 @@ use Rattle.pass.proofs.Indices.{at_row}
 use Rattle.pass.proofs.added_at.Statement.{statement}
 use Rattle.pass.proofs.added_at.Tie as tie
 
-at-requires : tie.Need-at-requires
-at-requires c κs = search rules
+at-p-requires : tie.Need-at-p-requires
+at-p-requires c κs = search rules
 
-e-running-requires : tie.Need-e-running-requires
-e-running-requires c κs =
+e_running-e-requires : tie.Need-e_running-e-requires
+e_running-e-requires c κs =
     let s = c.before in
-    let first : c.at.result.1 ≤ 2 = omega (arith, ap (λ (p : Pair). p.1) c.at.ensures) in
-    (running c.at.result 1 s.args.b c.at.ensures s.args.k s.args.power (omega arith) s.requires.0 s.requires.1, first, s.requires.2)
+    let first : c.at-p.result.1 ≤ 2 = omega (arith, ap (λ (p : Pair). p.1) c.at-p.ensures) in
+    (running c.at-p.result 1 s.args.b c.at-p.ensures s.args.k s.args.power (omega arith) s.requires.0 s.requires.1, first, s.requires.2)
 
 xor-requires : tie.Need-xor-requires
 xor-requires c κs = search rules
 
 returns : tie.Need-returns
 returns c =
-    let at : tie.After-at = c.before.before in
-    let a = at.before.args in
-    c.xor.ensures ∙ ap (λ (l : Bytes). a.a ⊕ l) (at_row at.at.result 1 a.b at.at.ensures (base a.k) c.before.e-running.result a.x c.before.e-running.ensures)
+    let at : tie.After-at-p = c.before.before in
+    let a = at.args in
+    c.xor.ensures ∙ ap (λ (l : Bytes). a.a ⊕ l) (at_row at.at-p.result 1 a.b at.at-p.ensures (base a.k) c.e_running-e.result a.x c.e_running-e.ensures)
 
 pub added_at_spec : {M : Type 1} → statement M
-added_at_spec = tie.close (tie.spec at-requires e-running-requires xor-requires returns)
+added_at_spec = tie.close (tie.spec
+    at-p-requires
+    e_running-e-requires
+    xor-requires
+    returns)

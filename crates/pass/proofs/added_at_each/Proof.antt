@@ -9,22 +9,26 @@ use Rattle.pass.specs.Pairs.{xors}
 use Rattle.pass.proofs.added_at_each.Statement.{statement}
 use Rattle.pass.proofs.added_at_each.Tie as tie
 
+xor-masked-requires : tie.Need-xor-masked-requires
+xor-masked-requires c κs = search rules
+
+under1-e-requires : tie.Need-under1-e-requires
+under1-e-requires c κs = search rules
+
 xor-requires : tie.Need-xor-requires
 xor-requires c κs = search rules
 
-under1-requires : tie.Need-under1-requires
-under1-requires c κs = search rules
-
-xor-requires-2 : tie.Need-xor-requires-2
-xor-requires-2 c κs = search rules
-
 returns : tie.Need-returns
 returns c =
-    let e : tie.After-under1 = c.before.before in
-    let masked : tie.After-xor = e.before.before in
-    let a = masked.before.args in
-    c.xor2.ensures
-    ∙ ap (xors a.a.now) (e.under1.ensures ∙ ap (λ (g : List (List ℕ)). AES4s (λ i. k1 (key_for a.keys.now i)) g) masked.xor.ensures)
+    let e : tie.After-under1-e = c.before.before in
+    let masked : tie.After-xor-masked = e.before.before in
+    let a = masked.args in
+    c.xor.ensures
+    ∙ ap (xors a.a.now) (e.under1-e.ensures ∙ ap (λ (g : List (List ℕ)). AES4s (λ i. k1 (key_for a.keys.now i)) g) masked.xor-masked.ensures)
 
 pub added_at_each_spec : {M : Type 1} → statement M
-added_at_each_spec = tie.close (tie.spec xor-requires under1-requires xor-requires-2 returns)
+added_at_each_spec = tie.close (tie.spec
+    xor-masked-requires
+    under1-e-requires
+    xor-requires
+    returns)

@@ -7,36 +7,43 @@ use Rattle.pass.proofs.Steps.{first_made}
 use Rattle.pass.proofs.first_pair.Statement.{statement}
 use Rattle.pass.proofs.first_pair.Tie as tie
 
-load-requires : tie.Need-load-requires
-load-requires c κs = search rules
+load-left-requires : tie.Need-load-left-requires
+load-left-requires c κs = search rules
 
-load-requires-2 : tie.Need-load-requires-2
-load-requires-2 c κs = search rules
+load-right-requires : tie.Need-load-right-requires
+load-right-requires c κs = search rules
 
-added-at-requires : tie.Need-added-at-requires
-added-at-requires c κs = search rules
+added_at-w-requires : tie.Need-added_at-w-requires
+added_at-w-requires c κs = search rules
 
-added-requires : tie.Need-added-requires
-added-requires c κs = search rules
+added-x-requires : tie.Need-added-x-requires
+added-x-requires c κs = search rules
 
-put-two-requires : tie.Need-put-two-requires
-put-two-requires c κs = search rules
+put_two-requires : tie.Need-put_two-requires
+put_two-requires c κs = search rules
 
-same_length : tie.Need-same-length
-same_length c = search rules
+shape_of-part : tie.Need-shape_of-part
+shape_of-part c = search rules
 
 returns : tie.Need-returns
 returns c =
-    let put : tie.After-put-two = c.before.before in
-    let x : tie.After-added = put.before.before in
-    let w : tie.After-added-at = x.before in
-    let right : tie.After-load2 = w.before in
-    let left : tie.After-load = right.before.before in
-    let a = left.before.before.before.args in
-    let made = first_made (E (base a.k)) a.b a.part.now left.load.result right.load2.result left.load.ensures right.load2.ensures w.added-at.result x.added.result w.added-at.ensures x.added.ensures in
+    let put : tie.After-put_two = c.before.before in
+    let x : tie.After-added-x = put.before.before in
+    let w : tie.After-added_at-w = x.before in
+    let right : tie.After-load-right = w.before in
+    let left : tie.After-load-left = right.before in
+    let a = left.args in
+    let made = first_made (E (base a.k)) a.b a.part.now left.load-left.result right.load-right.result left.load-left.ensures right.load-right.ensures w.added_at-w.result x.added-x.result w.added_at-w.ensures x.added-x.ensures in
     (made.0, put.put_two.ensures ∙ made.1)
 
 pub first_pair_spec : {M : Type 1} → statement M
 first_pair_spec =
     tie.close
-    (tie.spec load-requires load-requires-2 added-at-requires added-requires put-two-requires same_length returns)
+    (tie.spec
+    load-left-requires
+    load-right-requires
+    added_at-w-requires
+    added-x-requires
+    put_two-requires
+    shape_of-part
+    returns)

@@ -3,43 +3,43 @@ use borrow.Author.Rules.{rules}
 use Rattle.pass.proofs.one_pair.Statement.{statement}
 use Rattle.pass.proofs.one_pair.Tie as tie
 
-enum_told : tie.Need-enum-told
-enum_told c = search rules
+enum_told-1 : tie.Need-enum_told-1
+enum_told-1 c = search rules
 
-first-pair-requires : tie.Need-first-pair-requires
-first-pair-requires c κs = search rules
+first_pair-requires : tie.Need-first_pair-requires
+first_pair-requires c κs = search rules
 
-enum-told-2 : tie.Need-enum-told-2
-enum-told-2 c = search rules
+enum_told-in-Second : tie.Need-enum_told-in-Second
+enum_told-in-Second c = search rules
 
-second-pair-requires : tie.Need-second-pair-requires
-second-pair-requires c κs = search rules
+second_pair-requires : tie.Need-second_pair-requires
+second_pair-requires c κs = search rules
 
-same_length : tie.Need-same-length
-same_length c = search rules
+shape_of-part-in-First : tie.Need-shape_of-part-in-First
+shape_of-part-in-First c = search rules
 
-returns : tie.Need-returns
-returns c =
-    let call : tie.After-first-pair = c.before.before in
-    rw call.before.before.enum_told.given.1 call.first-pair.ensures
+returns-in-First : tie.Need-returns-in-First
+returns-in-First c =
+    let call : tie.After-first_pair = c.before.before in
+    rw call.in-First.is call.first_pair.ensures
 
-same-length-2 : tie.Need-same-length-2
-same-length-2 c = search rules
+shape_of-part-in-Second : tie.Need-shape_of-part-in-Second
+shape_of-part-in-Second c = search rules
 
-returns-2 : tie.Need-returns-2
-returns-2 c =
-    let call : tie.After-second-pair = c.before.before in
-    rw call.before.before.enum-told2.given.1 call.second-pair.ensures
+returns-in-Second : tie.Need-returns-in-Second
+returns-in-Second c =
+    let call : tie.After-second_pair = c.before.before in
+    rw call.in-Second.is call.second_pair.ensures
 
 pub one_pair_spec : {M : Type 1} → statement M
 one_pair_spec =
     tie.close
     (tie.spec
-    enum_told
-    first-pair-requires
-    enum-told-2
-    second-pair-requires
-    same_length
-    returns
-    same-length-2
-    returns-2)
+    enum_told-1
+    first_pair-requires
+    enum_told-in-Second
+    second_pair-requires
+    shape_of-part-in-First
+    returns-in-First
+    shape_of-part-in-Second
+    returns-in-Second)

@@ -12,67 +12,67 @@ use Rattle.pass.proofs.Steps.{second_made}
 use Rattle.pass.proofs.second_pair.Statement.{statement}
 use Rattle.pass.proofs.second_pair.Tie as tie
 
-at-requires : tie.Need-at-requires
-at-requires c κs = search rules
+at-p-requires : tie.Need-at-p-requires
+at-p-requires c κs = search rules
 
-e-running-requires : tie.Need-e-running-requires
-e-running-requires c κs =
+e_running-s-requires : tie.Need-e_running-s-requires
+e_running-s-requires c κs =
     let s : tie.Start = c.before.before in
-    let second : c.at.result.1 ≤ 2 = omega (arith, ap (λ (p : Pair). p.1) c.at.ensures) in
-    (running c.at.result 2 s.args.b c.at.ensures s.args.k s.args.power (omega arith) s.requires.0 s.requires.2, second, s.requires.3)
+    let second : c.at-p.result.1 ≤ 2 = omega (arith, ap (λ (p : Pair). p.1) c.at-p.ensures) in
+    (running c.at-p.result 2 s.args.b c.at-p.ensures s.args.k s.args.power (omega arith) s.requires.0 s.requires.2, second, s.requires.3)
 
-load-requires : tie.Need-load-requires
-load-requires c κs = search rules
+load-left-requires : tie.Need-load-left-requires
+load-left-requires c κs = search rules
 
-load-requires-2 : tie.Need-load-requires-2
-load-requires-2 c κs = search rules
+load-right-requires : tie.Need-load-right-requires
+load-right-requires c κs = search rules
 
-xor-requires : tie.Need-xor-requires
-xor-requires c κs = search rules
+xor-y-requires : tie.Need-xor-y-requires
+xor-y-requires c κs = search rules
 
-xor-requires-2 : tie.Need-xor-requires-2
-xor-requires-2 c κs = search rules
+xor-z-requires : tie.Need-xor-z-requires
+xor-z-requires c κs = search rules
 
-added-requires : tie.Need-added-requires
-added-requires c κs = search rules
+added-second-requires : tie.Need-added-second-requires
+added-second-requires c κs = search rules
 
-added-at-requires : tie.Need-added-at-requires
-added-at-requires c κs = search rules
+added_at-first-requires : tie.Need-added_at-first-requires
+added_at-first-requires c κs = search rules
 
-put-two-requires : tie.Need-put-two-requires
-put-two-requires c κs = search rules
+put_two-requires : tie.Need-put_two-requires
+put_two-requires c κs = search rules
 
-same_length : tie.Need-same-length
-same_length c = search rules
+shape_of-part : tie.Need-shape_of-part
+shape_of-part c = search rules
 
 returns : tie.Need-returns
 returns c =
-    let put : tie.After-put-two = c.before.before in
-    let first : tie.After-added-at = put.before.before in
-    let second : tie.After-added = first.before in
-    let z : tie.After-xor2 = second.before in
-    let y : tie.After-xor = z.before in
-    let right : tie.After-load2 = y.before in
-    let left : tie.After-load = right.before.before in
-    let s : tie.After-e-running = left.before.before in
-    let p : tie.After-at = s.before in
-    let a = p.before.before.args in
-    let masked = at_row p.at.result 2 a.b p.at.ensures (base a.k) s.e-running.result a.sum s.e-running.ensures in
-    let made = second_made (E (base a.k)) a.b a.part.now left.load.result right.load2.result left.load.ensures right.load2.ensures a.sum s.e-running.result y.xor.result z.xor2.result second.added.result first.added-at.result masked y.xor.ensures z.xor2.ensures second.added.ensures first.added-at.ensures in
+    let put : tie.After-put_two = c.before.before in
+    let first : tie.After-added_at-first = put.before.before in
+    let second : tie.After-added-second = first.before in
+    let z : tie.After-xor-z = second.before in
+    let y : tie.After-xor-y = z.before in
+    let right : tie.After-load-right = y.before in
+    let left : tie.After-load-left = right.before in
+    let s : tie.After-e_running-s = left.before in
+    let p : tie.After-at-p = s.before in
+    let a = p.args in
+    let masked = at_row p.at-p.result 2 a.b p.at-p.ensures (base a.k) s.e_running-s.result a.sum s.e_running-s.ensures in
+    let made = second_made (E (base a.k)) a.b a.part.now left.load-left.result right.load-right.result left.load-left.ensures right.load-right.ensures a.sum s.e_running-s.result y.xor-y.result z.xor-z.result second.added-second.result first.added_at-first.result masked y.xor-y.ensures z.xor-z.ensures second.added-second.ensures first.added_at-first.ensures in
     (made.0, put.put_two.ensures ∙ made.1)
 
 pub second_pair_spec : {M : Type 1} → statement M
 second_pair_spec =
     tie.close
     (tie.spec
-    at-requires
-    e-running-requires
-    load-requires
-    load-requires-2
-    xor-requires
-    xor-requires-2
-    added-requires
-    added-at-requires
-    put-two-requires
-    same_length
+    at-p-requires
+    e_running-s-requires
+    load-left-requires
+    load-right-requires
+    xor-y-requires
+    xor-z-requires
+    added-second-requires
+    added_at-first-requires
+    put_two-requires
+    shape_of-part
     returns)

@@ -10,36 +10,42 @@ use Rattle.pass.proofs.One.{one_summed, one_joined}
 use Rattle.pass.proofs.some_pairs.Statement.{statement}
 use Rattle.pass.proofs.some_pairs.Tie as tie
 
-one-pair-requires : tie.Need-one-pair-requires
-one-pair-requires c κs = search rules
+one_pair-requires : tie.Need-one_pair-requires
+one_pair-requires c κs = search rules
 
-same_length : tie.Need-same-length
-same_length c = search rules
+shape_of-part-then-part-eq32 : tie.Need-shape_of-part-then-part-eq32
+shape_of-part-then-part-eq32 c = search rules
 
-returns : tie.Need-returns
-returns c =
-    let call : tie.After-one-pair = c.before.before in
+returns-then-part-eq32 : tie.Need-returns-then-part-eq32
+returns-then-part-eq32 c =
+    let call : tie.After-one_pair = c.before.before in
     let s : tie.Start = call.before.before.before.before in
     let a = s.args in
     let f = E (base a.k) in
-    let one : length a.part.now ≡ 32 = omega (arith, call.before.before.if1.true) in
-    let p = call.one-pair in
+    let one : length a.part.now ≡ 32 = omega (arith, call.if-part-eq32.true) in
+    let p = call.one_pair in
     let long : length p.result ≡ 16 = search rules in (
       one_summed (summand f a.pass a.sum) a.b a.part.now one s.requires.0 p.result p.ensures.0 (omega arith),
-      one_joined (new_pair f a.pass a.sum) a.b a.part.now one s.requires.0 p.new.1.1.1.1.1.1.0 p.ensures.1,
+      one_joined (new_pair f a.pass a.sum) a.b a.part.now one s.requires.0 p.new.part p.ensures.1,
     )
 
-one-group-requires : tie.Need-one-group-requires
-one-group-requires c κs =
+one_group-requires : tie.Need-one_group-requires
+one_group-requires c κs =
     let s : tie.Start = c.before.before.before in
-    (s.requires.0, s.requires.1, s.requires.2, s.requires.3, s.requires.4, s.requires.5 c.before.if1.false)
+    (s.requires.0, s.requires.1, s.requires.2, s.requires.3, s.requires.4, s.requires.5 c.if-part-eq32.false)
 
-same-length-2 : tie.Need-same-length-2
-same-length-2 c = search rules
+shape_of-part : tie.Need-shape_of-part
+shape_of-part c = search rules
 
-returns-2 : tie.Need-returns-2
-returns-2 c = search rules
+returns : tie.Need-returns
+returns c = search rules
 
 pub some_pairs_spec : {M : Type 1} → statement M
 some_pairs_spec =
-    tie.close (tie.spec one-pair-requires same_length returns one-group-requires same-length-2 returns-2)
+    tie.close (tie.spec
+    one_pair-requires
+    shape_of-part-then-part-eq32
+    returns-then-part-eq32
+    one_group-requires
+    shape_of-part
+    returns)

@@ -9,23 +9,27 @@ use Rattle.pass.specs.Pairs.{xors}
 use Rattle.pass.proofs.sum_at_each.Statement.{statement}
 use Rattle.pass.proofs.sum_at_each.Tie as tie
 
-of-block-requires : tie.Need-of-block-requires
-of-block-requires c κs = search rules
+of_block-c-requires : tie.Need-of_block-c-requires
+of_block-c-requires c κs = search rules
 
-xor-requires : tie.Need-xor-requires
-xor-requires c κs = search rules
+xor-masked-requires : tie.Need-xor-masked-requires
+xor-masked-requires c κs = search rules
 
 under2-requires : tie.Need-under2-requires
 under2-requires c κs = search rules
 
 returns : tie.Need-returns
 returns c =
-    let masked : tie.After-xor = c.before.before in
-    let one : tie.After-of-block = masked.before.before in
-    let a = one.before.args in
+    let masked : tie.After-xor-masked = c.before.before in
+    let one : tie.After-of_block-c = masked.before.before in
+    let a = one.args in
     c.under2.ensures
     ∙ ap (λ (g : List (List ℕ)). AES4s (λ i. k2 (key_for a.keys.now i)) g)
-    (masked.xor.ensures ∙ ap (λ (x : List ℕ). xors (each (λ i. x)) a.masks.now) one.of-block.ensures)
+    (masked.xor-masked.ensures ∙ ap (λ (x : List ℕ). xors (each (λ i. x)) a.masks.now) one.of_block-c.ensures)
 
 pub sum_at_each_spec : {M : Type 1} → statement M
-sum_at_each_spec = tie.close (tie.spec of-block-requires xor-requires under2-requires returns)
+sum_at_each_spec = tie.close (tie.spec
+    of_block-c-requires
+    xor-masked-requires
+    under2-requires
+    returns)

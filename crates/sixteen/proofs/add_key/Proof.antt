@@ -11,34 +11,34 @@ use borrow.Author.Rules.{rules}
 use Rattle.sixteen.proofs.add_key.Statement.{statement}
 use Rattle.sixteen.proofs.add_key.Tie as tie
 
-abbrev invariant-loop : tie.invariant-loop
-invariant-loop k q r₀ i₀ r i = (i ≤ 32) × Front (xor_planes q k) r i
+abbrev invariant-loop-i : tie.invariant-loop-i
+invariant-loop-i k q r₀ i₀ r i = (i ≤ 32) × Front (xor_planes q k) r i
 
-abbrev decreases-loop : tie.decreases-loop
-decreases-loop k q r₀ i₀ r i = 32 - i
+abbrev decreases-loop-i : tie.decreases-loop-i
+decreases-loop-i k q r₀ i₀ r i = 32 - i
 
-loop-holds : tie.Need-loop-init invariant-loop decreases-loop
+loop-i-init : tie.Need-loop-i-init invariant-loop-i decreases-loop-i
 unfolding xor_planes
-loop-holds c = (omega arith, record { long = refl; same = refl })
+loop-i-init c = (omega arith, record { long = refl; same = refl })
 
-loop-again : tie.Need-loop-preserved invariant-loop decreases-loop
+loop-i-preserved : tie.Need-loop-i-preserved invariant-loop-i decreases-loop-i
 unfolding xor_planes
-loop-again c =
-    let l = c.before.before.loop in
-    let a = c.before.before.before.args in
-    (omega arith, front_more _ l.invariant.1 (omega arith) (sym (get_or_tab 32 l.i (λ i. bit_xor (get_or a.t1 i 0) (get_or a.k.now i 0)) (omega arith))))
+loop-i-preserved c =
+    let l = c.loop-i in
+    let a = c.args in
+    (omega arith, front_more _ l.invariant.1 (omega arith) (sym (get_or_tab 32 l.i (λ i. bit_xor (get_or a.q i 0) (get_or a.k.now i 0)) (omega arith))))
 
-returns : tie.Need-returns invariant-loop decreases-loop
+returns : tie.Need-returns invariant-loop-i decreases-loop-i
 unfolding xor_planes
-returns c = front_all c.before.loop.invariant.1 (omega arith)
+returns c = front_all c.loop-i.invariant.1 (omega arith)
 
 pub add_key_spec : {M : Type 1} → statement M
 add_key_spec =
     tie.close
     (tie.spec
-    invariant-loop
-    decreases-loop
-    loop-holds
+    invariant-loop-i
+    decreases-loop-i
+    loop-i-init
     (λ c. search rules)
     (λ c. search rules)
     (λ c. search rules)
@@ -47,5 +47,5 @@ add_key_spec =
     (λ c. search rules)
     (λ c. search rules)
     (λ c. search rules)
-    loop-again
+    loop-i-preserved
     returns)

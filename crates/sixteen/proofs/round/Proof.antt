@@ -6,10 +6,10 @@ use Rattle.sixteen.proofs.round.Tie as tie
 
 returns : tie.Need-returns
 returns c =
-    let sub = c.before.before.sub-bytes in
-    let mix = c.before.shift-and-mix in
-    let a = c.before.before.before.args in
-    rounded a.q sub.result mix.result c.add-key.result a.k.now sub.ensures mix.ensures c.add-key.ensures
+    let sub = c.sub_bytes-s in
+    let mix = c.shift_and_mix-m in
+    let a = c.args in
+    rounded a.q sub.result mix.result c.add_key.result a.k.now sub.ensures mix.ensures c.add_key.ensures
 
 pub round_spec : {M : Type 1} → statement M
 round_spec =

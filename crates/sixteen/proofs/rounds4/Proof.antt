@@ -9,19 +9,19 @@ use Rattle.sixteen.proofs.rounds4.Statement.{statement}
 use Rattle.sixteen.proofs.rounds4.Tie as tie
 
 -- the places after the second round and at the start
-abbrev second : tie.After-round4 → tie.After-round2
+abbrev second : tie.After-round → tie.After-round-b
 second c = c.before.before
 
-abbrev start : tie.After-round4 → tie.Start
+abbrev start : tie.After-round → tie.Start
 start c = (second c).before.before
 
 returns : tie.Need-returns
 returns c =
     let a = (start c).args in
-    let r1 = (second c).before.round in
-    let r2 = (second c).round2 in
-    let r3 = c.before.round3 in
-    let r4 = c.round4 in
+    let r1 = (second c).round-a in
+    let r2 = (second c).round-b in
+    let r3 = c.round-c in
+    let r4 = c.round in
     let f1 : ℕ → Bytes = λ s. aesenc (plane_block a.q s) (plane_block a.k1.now s) in
     let f2 : ℕ → Bytes = λ s. aesenc (f1 s) (plane_block a.k2.now s) in
     let f3 : ℕ → Bytes = λ s. aesenc (f2 s) (plane_block a.k3.now s) in

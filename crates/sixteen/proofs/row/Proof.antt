@@ -5,7 +5,7 @@ use Rattle.sixteen.proofs.row.Statement.{statement}
 use Rattle.sixteen.proofs.row.Tie as tie
 
 returns : tie.Need-returns
-returns c = read_row c.args.t1 c.args.l
+returns c = read_row c.args.q c.args.l
 
 pub row_spec : {M : Type 1} → statement M
 row_spec =

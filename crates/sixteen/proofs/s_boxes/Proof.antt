@@ -7,10 +7,10 @@ use Rattle.sixteen.proofs.s_boxes.Statement.{statement}
 use Rattle.sixteen.proofs.s_boxes.Tie as tie
 
 -- the places where the norm is inverted and where the sums are taken, and the start
-abbrev inverted : tie.After-outputs → tie.After-inverse16
+abbrev inverted : tie.After-outputs → tie.After-inverse16-v
 inverted c = c.before.before
 
-abbrev summed : tie.After-outputs → tie.After-sums
+abbrev summed : tie.After-outputs → tie.After-sums-y
 summed c = (inverted c).before.before
 
 abbrev start : tie.After-outputs → tie.Start
@@ -19,10 +19,10 @@ start c = (summed c).before
 returns : tie.Need-returns
 returns c =
     let q = (start c).args.q in
-    let y = (summed c).sums in
-    let n = (inverted c).before.norm in
-    let t = (inverted c).inverse16 in
-    let z = c.before.products in
+    let y = (summed c).sums-y in
+    let n = (inverted c).norm-t in
+    let t = (inverted c).inverse16-v in
+    let z = c.products-z in
     let r = c.outputs in
     let long : length (start c).args.q ≡ 8 = search rules in
     circuit_lanes q r.result long

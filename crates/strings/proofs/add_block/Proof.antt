@@ -13,8 +13,8 @@ use Rattle.strings.proofs.Waits.{more_waits, one_waits}
 use Rattle.strings.proofs.add_block.Statement.{statement}
 use Rattle.strings.proofs.add_block.Tie as tie
 
-returns : tie.Need-returns
-returns c =
+returns-then-n-lt16 : tie.Need-returns-then-n-lt16
+returns-then-n-lt16 c =
     let s = c.before.before in
     let a = s.args in
     let n = a.s.waiting in (
@@ -22,19 +22,19 @@ returns c =
       more_waits (k0 (base a.k)) a.g.now n a.x a.s.total (omega (arith, s.requires.long)),
     )
 
-abbrev start : tie.After-xor → tie.Start
-start c = c.before.before.before.before.before
+abbrev start : tie.After-xor-more → tie.Start
+start c = c.before.before.before.before
 
-returns-2 : tie.Need-returns-2
-returns-2 c =
+returns : tie.Need-returns
+returns c =
     let s = start c in
     let a = s.args in
     let keys = k0 (base a.k) in
-    let full : 16 ≡ a.s.waiting = omega (arith, s.pre.few) in
-    let long : length c.xor.result ≡ 16 = search rules in
-    let all = c.xor.ensures ∙ ap (λ (S : Bytes). a.s.total ⊕ S) (c.before.added-up.ensures ∙ ap (added_up keys a.g.now) full) in (
-      record { long = length-set a.g.now 0 a.x ∙ s.pre.long; few = omega arith },
-      one_waits keys a.g.now a.x c.xor.result (omega (arith, s.pre.long)) (omega arith) ∙ ap (λ (S : Bytes). S ⊕ AES4 keys (block_of a.x)) all,
+    let full : 16 ≡ a.s.waiting = omega (arith, s.requires.few) in
+    let long : length c.xor-more.result ≡ 16 = search rules in
+    let all = c.xor-more.ensures ∙ ap (λ (S : Bytes). a.s.total ⊕ S) (c.added_up-all.ensures ∙ ap (added_up keys a.g.now) full) in (
+      record { long = length-set a.g.now 0 a.x ∙ s.requires.long; few = omega arith },
+      one_waits keys a.g.now a.x c.xor-more.result (omega (arith, s.requires.long)) (omega arith) ∙ ap (λ (S : Bytes). S ⊕ AES4 keys (block_of a.x)) all,
     )
 
 pub add_block_spec : {M : Type 1} → statement M
@@ -44,8 +44,8 @@ add_block_spec =
     (λ c. search rules)
     (λ c. search rules)
     (λ c. search rules)
-    returns
+    returns-then-n-lt16
     (λ c κs. search rules)
     (λ c κs. search rules)
     (λ c. search rules)
-    returns-2)
+    returns)

@@ -20,36 +20,36 @@ use Rattle.strings.proofs.Waits.{so_short}
 use Rattle.strings.proofs.add_full.Statement.{statement}
 use Rattle.strings.proofs.add_full.Tie as tie
 
-abbrev invariant-loop : tie.invariant-loop
-invariant-loop k m mask t g₀ hashed₀ power₀ at₀ j₀ g hashed power at j =
+abbrev invariant-loop-at : tie.invariant-loop-at
+invariant-loop-at k m mask t g₀ hashed₀ power₀ at₀ j₀ g hashed power at j =
     (1 ≤ j) × (at ≡ 16 * (j - 1)) × (at ≤ length t) × Fits g hashed × (so_far (base k) g hashed ≡ so_far (base k) g₀ hashed₀ ⊕ sum (j - 1) (full_term (base k) (block_of mask) t)) × (power ≡ columns_of (two_to ((j - 1) / 8) (base k).L))
 
-abbrev decreases-loop : tie.decreases-loop
-decreases-loop k m mask t g₀ hashed₀ power₀ at₀ j₀ g hashed power at j = length t - at
+abbrev decreases-loop-at : tie.decreases-loop-at
+decreases-loop-at k m mask t g₀ hashed₀ power₀ at₀ j₀ g hashed power at j = length t - at
 
-abbrev start : tie.At-loop invariant-loop decreases-loop → tie.Start invariant-loop decreases-loop
+abbrev start : tie.At-loop-at invariant-loop-at decreases-loop-at → tie.Start invariant-loop-at decreases-loop-at
 start c = c.before.before.before
 
-abbrev looped : tie.After-masked invariant-loop decreases-loop → tie.At-loop invariant-loop decreases-loop
+abbrev looped : tie.After-masked-y invariant-loop-at decreases-loop-at → tie.At-loop-at invariant-loop-at decreases-loop-at
 looped c = c.before.before.before
 
 -- the j-th term of the sum
-abbrev term : tie.At-loop invariant-loop decreases-loop → ℕ → Bytes
+abbrev term : tie.At-loop-at invariant-loop-at decreases-loop-at → ℕ → Bytes
 term c j = let a = (start c).args in full_term (base a.k) (block_of a.mask) a.t.now j
 
 -- the block that is added is the j-th, masked
-is_term : (c : tie.After-masked invariant-loop decreases-loop) → AES4 (k0 (base (start (looped c)).args.k)) (block_of c.masked.result) ≡ term (looped c) (looped c).loop.j
+is_term : (c : tie.After-masked-y invariant-loop-at decreases-loop-at) → AES4 (k0 (base (start (looped c)).args.k)) (block_of c.masked-y.result) ≡ term (looped c) (looped c).loop-at.j
 is_term c =
     let s = start (looped c) in
     let a = s.args in
-    let l = (looped c).loop in
-    let x = c.before.load.ensures ∙ ap (λ (n : ℕ). take 16 (drop n a.t.now)) l.invariant.1 in
+    let l = (looped c).loop-at in
+    let x = c.load-x.ensures ∙ ap (λ (n : ℕ). take 16 (drop n a.t.now)) l.invariant.1 in
     ap (AES4 (k0 (base a.k)))
-    (c.masked.ensures ∙ masked_is a.k a.m.now s.pre.1 l.j l.power l.invariant.5 (block_of a.mask) x)
+    (c.masked-y.ensures ∙ masked_is a.k a.m.now s.requires.1 l.j l.power l.invariant.5 (block_of a.mask) x)
 
-loop-holds : tie.Need-loop-init invariant-loop decreases-loop
+loop-at-init : tie.Need-loop-at-init invariant-loop-at decreases-loop-at
 unfolding sum
-loop-holds c =
+loop-at-init c =
     let s = c.before.before in
     let a = s.args in
     let K = base a.k in (
@@ -58,35 +58,35 @@ loop-holds c =
       omega arith,
       s.requires.2,
       sym (⊕_zeros 16 (so_far K a.g.now a.s) (so_short (k0 K) a.g.now a.s.waiting a.s.total)),
-      c.power.ensures ∙ ap columns_of (sym (two_to_zero K.L)),
+      c.power-power.ensures ∙ ap columns_of (sym (two_to_zero K.L)),
     )
 
-load-requires : tie.Need-load-requires invariant-loop decreases-loop
-load-requires c κs = omega (arith, c.before.loop.invariant.2)
+load-x-requires : tie.Need-load-x-requires invariant-loop-at decreases-loop-at
+load-x-requires c κs = omega (arith, c.loop-at.invariant.2)
 
-loop-again : tie.Need-loop-preserved invariant-loop decreases-loop
-loop-again c =
+loop-at-preserved : tie.Need-loop-at-preserved invariant-loop-at decreases-loop-at
+loop-at-preserved c =
     let added = c.before in
     let y = added.before.before in
     let s = looped y in
-    let l = s.loop in
+    let l = s.loop-at in
     let a = (start s).args in
     let before = so_far (base a.k) a.g.now a.s in (
       omega arith,
       omega (arith, l.invariant.1),
       omega arith,
-      added.add-block.ensures.0,
-      added.add-block.ensures.1
+      added.add_block-more.ensures.0,
+      added.add_block-more.ensures.1
           ∙ ap₂ ◌⊕◌ l.invariant.4 (is_term y)
           ∙ ⊕_assoc before (sum (l.j - 1) (term s)) (term s l.j)
           ∙ ap (λ (S : Bytes). before ⊕ S) (sym (sum_more l.j (term s) l.invariant.0)),
-      c.next_power.ensures ∙ next l.j l.power (base_bytes a.k).L l.invariant.0 l.invariant.5,
+      c.next_power-next.ensures ∙ next l.j l.power (base_bytes a.k).L l.invariant.0 l.invariant.5,
     )
 
-returns : tie.Need-returns invariant-loop decreases-loop
+returns : tie.Need-returns invariant-loop-at decreases-loop-at
 returns c =
     let s = c.before in
-    let l = s.loop in
+    let l = s.loop-at in
     let a = (start s).args in
     let count : l.j - 1 ≡ length a.t.now / 16 = omega (arith, l.invariant.1, l.invariant.2) in
     (l.invariant.3, l.invariant.4 ∙ ap (λ (n : ℕ). so_far (base a.k) a.g.now a.s ⊕ sum n (term s)) count)
@@ -95,17 +95,17 @@ pub add_full_spec : {M : Type 1} → statement M
 add_full_spec =
     tie.close
     (tie.spec
-    invariant-loop
-    decreases-loop
+    invariant-loop-at
+    decreases-loop-at
     (λ c κs. search rules)
-    loop-holds
+    loop-at-init
     (λ c. search rules)
-    load-requires
+    load-x-requires
     (λ c κs. search rules)
     (λ c κs. search rules)
     (λ c κs. search rules)
     (λ c. search rules)
     (λ c. search rules)
     (λ c. search rules)
-    loop-again
+    loop-at-preserved
     returns)

@@ -46,7 +46,7 @@ module _ (s : tie.Start) where
 
   -- the base has the key's blocks
   is_base : base s.args.b ≡ K
-  is_base = has_blocks s.args.k _ s.good.0 s.args.b s.pre.1
+  is_base = has_blocks s.args.k _ s.well_formed.0 s.args.b s.requires.1
 
 abbrev entered : tie.After-string → tie.Start
 entered c = c.before.before
@@ -55,30 +55,30 @@ entered c = c.before.before
 is_row : (c : tie.After-string) → c.string.result.1 ≡ 2 + (entered c).args.i
 is_row c = ap (λ (p : Pair). p.1) c.string.ensures
 
-row-mask-requires : tie.Need-row-mask-requires
-row-mask-requires c κs = let s = entered c in (s.pre.0, omega (arith, is_row c, s.pre.3), omega (arith, is_row c, s.pre.4))
+row_mask-mask-requires : tie.Need-row_mask-mask-requires
+row_mask-mask-requires c κs = let s = entered c in (s.requires.0, omega (arith, is_row c, s.requires.3), omega (arith, is_row c, s.requires.4))
 
-is_mask : (c : tie.After-row-mask) → block_of c.row-mask.result ≡ ((entered c.before).args.i * 8) · (K (entered c.before)).J
+is_mask : (c : tie.After-row_mask-mask) → block_of c.row_mask-mask.result ≡ ((entered c.before).args.i * 8) · (K (entered c.before)).J
 is_mask c =
     let s = entered c.before in
-    let same : c.before.string.result.1 - 2 ≡ s.args.i = omega (arith, is_row c.before) in
-    made (times_block (s.args.i * 8) (key_bytes s.args.k _ s.good.0).J)
-    (c.row-mask.ensures ∙ ap (λ (n : ℕ). columns_of ((n * 8) · (K s).J)) same)
+    let same : c.string.result.1 - 2 ≡ s.args.i = omega (arith, is_row c.before) in
+    made (times_block (s.args.i * 8) (key_bytes s.args.k _ s.well_formed.0).J)
+    (c.row_mask-mask.ensures ∙ ap (λ (n : ℕ). columns_of ((n * 8) · (K s).J)) same)
 
 -- ---- With the full blocks in the sum
 
-abbrev masked : tie.After-add-full → tie.After-row-mask
+abbrev masked : tie.After-add_full-full → tie.After-row_mask-mask
 masked c = c.before.before
 
-abbrev start : tie.After-add-full → tie.Start
+abbrev start : tie.After-add_full-full → tie.Start
 start c = entered (masked c).before
 
-add-full-requires : tie.Need-add-full-requires
-add-full-requires c κs =
+add_full-full-requires : tie.Need-add_full-full-requires
+add_full-full-requires c κs =
     let s = entered c.before.before in
-    (s.pre.5, of_j s.args.k s.args.b s.args.m.now (is_base s) s.pre.2, s.pre.6)
+    (s.requires.5, of_j s.args.k s.args.b s.args.m.now (is_base s) s.requires.2, s.requires.6)
 
-module _ (c : tie.After-add-full) where
+module _ (c : tie.After-add_full-full) where
   abbrev F : BlockFunction
   F = E (K (start c))
 
@@ -86,7 +86,7 @@ module _ (c : tie.After-add-full) where
   i = (start c).args.i
 
   abbrev M : Bytes
-  M = block_of (masked c).row-mask.result
+  M = block_of (masked c).row_mask-mask.result
 
   -- what was hashed before
   abbrev S : Bytes
@@ -94,70 +94,70 @@ module _ (c : tie.After-add-full) where
 
   -- the group and what is hashed after the full blocks
   abbrev G₁ : List (List ℕ)
-  G₁ = c.add-full.new.1.1.1.1.0
+  G₁ = c.add_full-full.new.g
 
   abbrev S₁ : Bytes
-  S₁ = so_far (K (start c)) G₁ c.add-full.result
+  S₁ = so_far (K (start c)) G₁ c.add_full-full.result
 
   full_is : S₁ ≡ S ⊕ sum (length (t (start c)) / 16) (λ j. F (row (2 + i)) j (block_at (t (start c)) j))
   full_is =
       let a = (start c).args in
-      subst (λ (K : figure6.Key). so_far K G₁ c.add-full.result ≡ so_far K a.g.now a.s ⊕ sum (length (t (start c)) / 16) (full_term K M (t (start c))))
+      subst (λ (K : figure6.Key). so_far K G₁ c.add_full-full.result ≡ so_far K a.g.now a.s ⊕ sum (length (t (start c)) / 16) (full_term K M (t (start c))))
       (is_base (start c))
-      c.add-full.ensures.1
+      c.add_full-full.ensures.1
       ∙ ap (λ (X : Bytes). S ⊕ X) (full_terms (K (start c)) i (start c).requires.3 M (is_mask (masked c)) (t (start c)) (length (t (start c)) / 16))
 
   -- and the last block with them
-  last_is : (g : List (List ℕ)) (r : Sum) (last : Bytes) → so_far (base (start c).args.b) g r ≡ so_far (base (start c).args.b) G₁ c.add-full.result ⊕ short_term (base (start c).args.b) M last
+  last_is : (g : List (List ℕ)) (r : Sum) (last : Bytes) → so_far (base (start c).args.b) g r ≡ so_far (base (start c).args.b) G₁ c.add_full-full.result ⊕ short_term (base (start c).args.b) M last
       → so_far (K (start c)) g r ≡ S₁ ⊕ F (row (2 + i)) 0 (pad10* last)
   last_is g r last e =
-      subst (λ (K : figure6.Key). so_far K g r ≡ so_far K G₁ c.add-full.result ⊕ short_term K M last) (is_base (start c)) e
+      subst (λ (K : figure6.Key). so_far K g r ≡ so_far K G₁ c.add_full-full.result ⊕ short_term K M last) (is_base (start c)) e
       ∙ ap (λ (X : Bytes). S₁ ⊕ X) (short_term_lem (K (start c)) i (start c).requires.3 M (is_mask (masked c)) last)
+
+returns-then-n-eq0 : tie.Need-returns-then-n-eq0
+returns-then-n-eq0 c =
+    let full = c.before.before.before in
+    let T = t (start full) in
+    let none : length T ≡ 0 = c.if-n-eq0.true in
+    let at : 0 ≡ length T / 16 * 16 = omega arith in
+    (c.add_short.ensures.0, with_last (F full) (i full) T (S full) T (λ e. none) (full_is full) (ap (λ (n : ℕ). drop n T) at) (last_is full _ _ T c.add_short.ensures.1))
+
+returns-then-n-eq0-2 : tie.Need-returns-then-n-eq0-2
+returns-then-n-eq0-2 c =
+    let full = c.before.before in
+    (full.add_full-full.ensures.0, full_is full ∙ ap (λ (X : Bytes). S full ⊕ X) (sym (hash_full (F full) (i full) (t (start full)) c.if-n-eq0.false c.if-n-eq0-2.true)))
+
+add_short-requires : tie.Need-add_short-requires
+add_short-requires c κs = (omega arith, c.add_full-full.ensures.0)
+
+abbrev after_full : tie.Else-n-eq0-2 → tie.After-add_full-full
+after_full c = c.before.before
+
+add_short-requires-2 : tie.Need-add_short-requires-2
+add_short-requires-2 c κs = (simp (length-take, length-drop) (omega arith), (after_full c.before.before).add_full-full.ensures.0)
 
 returns : tie.Need-returns
 returns c =
-    let full = c.before.before.before in
-    let T = t (start full) in
-    let none : length T ≡ 0 = c.before.before.if1.true in
-    let at : 0 ≡ length T / 16 * 16 = omega arith in
-    (c.add-short.ensures.0, with_last (F full) (i full) T (S full) T (λ e. none) (full_is full) (ap (λ (n : ℕ). drop n T) at) (last_is full _ _ T c.add-short.ensures.1))
-
-returns-2 : tie.Need-returns-2
-returns-2 c =
-    let full = c.before.before in
-    (full.add-full.ensures.0, full_is full ∙ ap (λ (X : Bytes). S full ⊕ X) (sym (hash_full (F full) (i full) (t (start full)) c.before.if1.false c.if2.true)))
-
-add-short-requires : tie.Need-add-short-requires
-add-short-requires c κs = (omega arith, c.before.before.add-full.ensures.0)
-
-abbrev after_full : tie.Else2 → tie.After-add-full
-after_full c = c.before.before
-
-add-short-requires-2 : tie.Need-add-short-requires-2
-add-short-requires-2 c κs = (simp (length-take, length-drop) (omega arith), (after_full c.before.before).add-full.ensures.0)
-
-returns-3 : tie.Need-returns-3
-returns-3 c =
     let odd = c.before.before.before in
     let full = after_full odd in
     let T = t (start full) in
     let n : ℕ = length T / 16 * 16 in
     let all : take (length T - n) (drop n T) ≡ drop n T = take_all (length T - n) (drop n T) (simp length-drop (omega arith)) in
-    (c.add-short2.ensures.0, with_last (F full) (i full) T (S full) _ (λ e. absurd (odd.if2.false e)) (full_is full) all (last_is full _ _ _ c.add-short2.ensures.1))
+    (c.add_short-2.ensures.0, with_last (F full) (i full) T (S full) _ (λ e. absurd (odd.if-n-eq0-2.false e)) (full_is full) all (last_is full _ _ _ c.add_short-2.ensures.1))
 
 pub add_string_spec : {M : Type 1} → statement M
 add_string_spec =
     tie.close
     (tie.spec
     (λ c κs. search rules)
-    row-mask-requires
-    add-full-requires
-    add-short-requires
-    returns
-    returns-2
+    row_mask-mask-requires
+    add_full-full-requires
+    add_short-requires
+    returns-then-n-eq0
+    returns-then-n-eq0-2
     (λ c. search rules)
     (λ c. search rules)
     (λ c. search rules)
     (λ c. search rules)
-    add-short-requires-2
-    returns-3)
+    add_short-requires-2
+    returns)

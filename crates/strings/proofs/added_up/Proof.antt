@@ -9,18 +9,18 @@ use Rattle.strings.proofs.Waits.{added_group}
 use Rattle.strings.proofs.added_up.Statement.{statement}
 use Rattle.strings.proofs.added_up.Tie as tie
 
-abbrev start : tie.After-keys → tie.Start
+abbrev start : tie.After-keys-keys → tie.Start
 start c = c.before.before
 
-returns-2 : tie.Need-returns-2
-returns-2 c =
+returns : tie.Need-returns
+returns c =
     let e = c.before.before in
     let made = e.before.before in
     let s = start made in
     let a = s.args in
     let K = base a.k in
     c.sum.ensures
-    ∙ added_group K (base_bytes a.k) e.under0.result a.g.now a.n s.pre (e.under0.ensures ∙ held k0 K made.keys.result made.keys.ensures.0 a.g.now)
+    ∙ added_group K (base_bytes a.k) e.under0-e.result a.g.now a.n s.requires (e.under0-e.ensures ∙ held k0 K made.keys-keys.result made.keys-keys.ensures.0 a.g.now)
 
 pub added_up_spec : {M : Type 1} → statement M
 added_up_spec =
@@ -31,4 +31,4 @@ added_up_spec =
     (λ c κs. search rules)
     (λ c κs. search rules)
     (λ c κs. search rules)
-    returns-2)
+    returns)

@@ -7,4 +7,5 @@ returns : tie.Need-returns
 returns c = refl
 
 pub nothing_spec : {M : Type 1} → statement M
-nothing_spec = tie.close (tie.spec returns)
+nothing_spec = tie.close (tie.spec
+    returns)

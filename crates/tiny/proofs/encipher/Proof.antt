@@ -33,77 +33,77 @@ use Rattle.tiny.proofs.encipher.Statement.{statement}
 use Rattle.tiny.proofs.encipher.Tie as tie
 
 -- from each call to the one before it
-abbrev at_put : tie.After-last-step → tie.After-put-joined
+abbrev at_put : tie.After-last_step → tie.After-put_joined
 at_put c = c.before.before.before.before.before
 
-abbrev at_turns : tie.After-put-joined → tie.After-turns-up
+abbrev at_turns : tie.After-put_joined → tie.After-turns_up-t
 at_turns c = c.before.before
 
-abbrev at_front : tie.After-turns-up → tie.After-front
-at_front c = c.before.before.before.before
+abbrev at_front : tie.After-turns_up-t → tie.After-front-bits
+at_front c = c.before.before.before
 
-abbrev taken : tie.After-keys-for → tie.After-multiples
+abbrev taken : tie.After-keys_for-keys → tie.After-multiples-m
 taken c = c.before.before
 
-abbrev known : tie.After-multiples → tie.After-slice-known
+abbrev known : tie.After-multiples-m → tie.After-slice_known-1
 known c = c.before.before
 
 -- the base has the key's blocks
-is_base : (c : tie.After-multiples) → base c.before.base.result ≡ blocks (known c).before.args.k
+is_base : (c : tie.After-multiples-m) → base c.base-b.result ≡ blocks (known c).args.k
 is_base c =
     let s = (known c).before in
-    has_blocks s.args.k _ s.good.0 c.before.base.result c.before.base.ensures
+    has_blocks s.args.k _ s.well_formed.0 c.base-b.result c.base-b.ensures
 
 -- the multiples that are lent are those of the base
-of : (c : tie.After-multiples) → OfJ c.before.base.result c.multiples.result
-of c = let b = c.before.base in of_j (known c).before.args.k b.result c.multiples.result (is_base c) c.multiples.ensures
+of : (c : tie.After-multiples-m) → OfJ c.base-b.result c.multiples-m.result
+of c = let b = c.base-b in of_j (known c).args.k b.result c.multiples-m.result (is_base c) c.multiples-m.ensures
 
 -- the string, its length, Delta and the block function
-module _ (c : tie.After-multiples) where
+module _ (c : tie.After-multiples-m) where
   abbrev M : Bytes
-  M = (known c).before.args.s.now
+  M = (known c).args.s.now
 
   abbrev n : ℕ
   n = length M
 
   abbrev delta : Bytes
-  delta = (known c).before.args.delta
+  delta = (known c).args.delta
 
   abbrev f : BlockFunction
-  f = E (base c.before.base.result)
+  f = E (base c.base-b.result)
 
   some : 1 ≤ n
-  some = (known c).before.requires.1
+  some = (known c).requires.1
 
   few : n ≤ 31
-  few = (known c).before.requires.2
+  few = (known c).requires.2
 
   f_block : GivesBlocks f
-  f_block = E_block (base_bytes c.before.base.result)
+  f_block = E_block (base_bytes c.base-b.result)
 
   delta_block : Block delta
-  delta_block = array_bytes 16 _ _ (known c).before.well-formed.1.0
+  delta_block = array_bytes 16 _ _ (known c).well_formed.1.0
 
   M_bytes : Digits 8 n M
-  M_bytes = record { len = refl; low = below_of 256 M (λ i h. omega (arith, (known c).slice-known.given i)) }
+  M_bytes = record { len = refl; low = below_of 256 M (λ i h. omega (arith, (known c).slice_known-1.given i)) }
 
 -- AES4 under the keys is the turns' E
-under : (c : tie.After-keys-for) (X : Bytes) → Block X
-    → AES4 (keys_of c.keys-for.result) X ≡ f (taken c) (row 0) (tiny_index (8 * n (taken c))) (X ⊕ (delta (taken c) ⊕ mark (n (taken c))))
+under : (c : tie.After-keys_for-keys) (X : Bytes) → Block X
+    → AES4 (keys_of c.keys_for-keys.result) X ≡ f (taken c) (row 0) (tiny_index (8 * n (taken c))) (X ⊕ (delta (taken c) ⊕ mark (n (taken c))))
 under c X p =
     let k = taken c in
-    ap (λ (l : List (List ℕ)). AES4 (keys_of l) X) c.keys-for.ensures
-    ∙ adding k.before.base.result (tiny_index (8 * n k)) (⊕_block (delta_block k) (mark_block (n k) (few k))) p
+    ap (λ (l : List (List ℕ)). AES4 (keys_of l) X) c.keys_for-keys.ensures
+    ∙ adding k.base-b.result (tiny_index (8 * n k)) (⊕_block (delta_block k) (mark_block (n k) (few k))) p
 
 -- the bits of a half
-bits_are : (c : tie.After-front) → block_of c.front.result ≡ front (n (taken c.before))
-bits_are c = let k = taken c.before in made (front_block (n k) (omega (arith, few k))) c.front.ensures
+bits_are : (c : tie.After-front-bits) → block_of c.front-bits.result ≡ front (n (taken c.before))
+bits_are c = let k = taken c.before in made (front_block (n k) (omega (arith, few k))) c.front-bits.ensures
 
-keys-for-requires : tie.Need-keys-for-requires
-keys-for-requires c κs = (few c.before, of c.before)
+keys_for-keys-requires : tie.Need-keys_for-keys-requires
+keys_for-keys-requires c κs = (few c.before, of c.before)
 
-last-step-requires : tie.Need-last-step-requires
-last-step-requires c κs = (search rules, of (taken (at_front (at_turns c.before.before.before.before)).before))
+last_step-requires : tie.Need-last_step-requires
+last_step-requires c κs = (search rules, of (taken (at_front (at_turns c.before.before.before.before)).before))
 
 returns : tie.Need-returns
 returns c =
@@ -113,14 +113,14 @@ returns c =
     let fr = at_front t in
     let keys = fr.before in
     let k = taken keys in
-    let Ks = keys_of keys.keys-for.result in
-    let both = t.before.before.halves_of in
+    let Ks = keys_of keys.keys_for-keys.result in
+    let both = t.halves_of-both in
     l.last_step.ensures
     ∙ ap (last_bytes (f k) (delta k))
     (all_turns_lem (f k) (f_block k) (delta k) (delta_block k) (n k) (few k) Ks (under keys) (bits_are fr) (up (tiny_rounds (8 * n k)))
-    (blocks_of both.result) (blocks_of t.Turns-up.result) (M_bytes k) both.ensures
-    (t.Turns-up.ensures ∙ up_through Ks (block_of fr.front.result) (tiny_rounds (8 * n k)) (blocks_of both.result))
-    p.put-joined.ensures)
+    (blocks_of both.result) (blocks_of t.turns_up-t.result) (M_bytes k) both.ensures
+    (t.turns_up-t.ensures ∙ up_through Ks (block_of fr.front-bits.result) (tiny_rounds (8 * n k)) (blocks_of both.result))
+    p.put_joined.ensures)
     ∙ sym (encipher_tiny_half_bytes (f k) (f_block k) (delta k) (delta_block k) (n k) (some k) (few k) (M k) (M_bytes k))
     ∙ ap (λ (K : figure6.Key). encipher_tiny (E K) (delta k) (M k)) (is_base k)
 
@@ -130,11 +130,11 @@ encipher_spec =
     (tie.spec
     (λ c κs. search rules)
     (λ c κs. search rules)
-    keys-for-requires
+    keys_for-keys-requires
     (λ c κs. search rules)
     (λ c κs. search rules)
     (λ c κs. search rules)
     (λ c κs. search rules)
-    last-step-requires
+    last_step-requires
     (λ c. search rules)
     returns)

@@ -18,26 +18,26 @@ use Rattle.tiny.proofs.keys_for.Statement.{statement}
 use Rattle.tiny.proofs.keys_for.Tie as tie
 
 -- from the sum to the pair
-abbrev paired : tie.After-xor → tie.After-pair-for
+abbrev paired : tie.After-xor-fixed → tie.After-pair_for-p
 paired c = c.before.before.before
 
-second : (c : tie.After-xor) → (paired c).pair-for.result.2 ≡ tiny_index (8 * (paired c).before.args.n)
-second c = ap (λ (p : Pair). p.2) (paired c).pair-for.ensures
+second : (c : tie.After-xor-fixed) → (paired c).pair_for-p.result.2 ≡ tiny_index (8 * (paired c).args.n)
+second c = ap (λ (p : Pair). p.2) (paired c).pair_for-p.ensures
 
-keys-adding-requires : tie.Need-keys-adding-requires
-keys-adding-requires c κs =
+keys_adding-requires : tie.Need-keys_adding-requires
+keys_adding-requires c κs =
     let s = (paired c).before in
-    (subst⁻¹ (λ (j : ℕ). j ≤ 7) (second c) (index_le (8 * s.args.n)), s.pre.1)
+    (subst⁻¹ (λ (j : ℕ). j ≤ 7) (second c) (index_le (8 * s.args.n)), s.requires.1)
 
 returns : tie.Need-returns
 returns c =
     let sum = c.before in
     let s = (paired sum).before in
     let a = s.args in
-    let delta_block = array_bytes 16 _ _ s.good.1.1.0 in
-    let bit-block = mark_block a.n s.pre.0 in
-    let fixed = made (⊕_block delta_block bit-block) (sum_of delta_block bit-block sum.before.before.of-block.ensures sum.before.mark.ensures sum.xor.ensures) in
-    c.keys-adding.ensures
+    let delta_block = array_bytes 16 _ _ s.well_formed.1.1.0 in
+    let bit-block = mark_block a.n s.requires.0 in
+    let fixed = made (⊕_block delta_block bit-block) (sum_of delta_block bit-block sum.of_block-d.ensures sum.mark-bit.ensures sum.xor-fixed.ensures) in
+    c.keys_adding.ensures
     ∙ ap₂ (λ (F : Bytes) (j : ℕ). masked0 a.k (columns_of (F ⊕ j · (base a.k).J))) fixed (second sum)
 
 pub keys_for_spec : {M : Type 1} → statement M
@@ -48,5 +48,5 @@ keys_for_spec =
     (λ c κs. search rules)
     (λ c κs. search rules)
     (λ c κs. search rules)
-    keys-adding-requires
+    keys_adding-requires
     returns)

@@ -18,15 +18,18 @@ use Rattle.wide.proofs.keys_for.Tie as tie
 picked : (n : ℕ) (K : Key) (t : Bool) → ltb n 160 ≡ t → keys_for n K ≡ (if t then replicate 4 (replicate 32 0) else keys_of K)
 picked n K t e = ap (λ (u : Bool). if u then replicate 4 (replicate 32 0) else keys_of K) e
 
+returns-then-n-lt160 : tie.Need-returns-then-n-lt160
+returns-then-n-lt160 c =
+    let a = c.args in
+    (λ long. absurd (omega arith), sym (picked a.n (base a.k) true (lt-ltb a.n 160 c.if-n-lt160.true)))
+
 returns : tie.Need-returns
 returns c =
-    let a = c.before.args in
-    (λ long. absurd (omega arith), sym (picked a.n (base a.k) true (lt-ltb a.n 160 c.if1.true)))
-
-returns-2 : tie.Need-returns-2
-returns-2 c =
-    let a = c.before.before.args in
-    (λ long. c.keys.ensures.0, c.keys.ensures.1 ∙ sym (picked a.n (base a.k) false (le-ltb a.n 160 c.before.if1.false)))
+    let a = c.args in
+    (λ long. c.keys.ensures.0, c.keys.ensures.1 ∙ sym (picked a.n (base a.k) false (le-ltb a.n 160 c.if-n-lt160.false)))
 
 pub keys_for_spec : {M : Type 1} → statement M
-keys_for_spec = tie.close (tie.spec returns (λ c κs. search rules) returns-2)
+keys_for_spec = tie.close (tie.spec
+    returns-then-n-lt160
+    (λ c κs. search rules)
+    returns)

@@ -12,49 +12,49 @@ use Rattle.wide.proofs.Masks.{one_more}
 use Rattle.wide.proofs.mask.Statement.{statement}
 use Rattle.wide.proofs.mask.Tie as tie
 
-abbrev invariant-loop : tie.invariant-loop
-invariant-loop part₀ e i₀ part i = (i ≤ length part₀) × (part ≡ take i (part₀ ⊕ e) ++ drop i part₀) × (length part ≡ length part₀)
+abbrev invariant-loop-i : tie.invariant-loop-i
+invariant-loop-i part₀ e i₀ part i = (i ≤ length part₀) × (part ≡ take i (part₀ ⊕ e) ++ drop i part₀) × (length part ≡ length part₀)
 
-abbrev decreases-loop : tie.decreases-loop
-decreases-loop part₀ e i₀ part i = length part₀ - i
+abbrev decreases-loop-i : tie.decreases-loop-i
+decreases-loop-i part₀ e i₀ part i = length part₀ - i
 
-loop-holds : tie.Need-loop-init invariant-loop decreases-loop
-loop-holds c = (omega arith, refl, refl)
+loop-i-init : tie.Need-loop-i-init invariant-loop-i decreases-loop-i
+loop-i-init c = (omega arith, refl, refl)
 
-slice-read-part : tie.Need-slice-read-part invariant-loop decreases-loop
-slice-read-part c = search rules
+bounds-part-i : tie.Need-bounds-part-i invariant-loop-i decreases-loop-i
+bounds-part-i c = search rules
 
-array-read-part : tie.Need-array-read-part invariant-loop decreases-loop
-array-read-part c = omega (arith, c.before.before.loop.invariant.2)
+bounds-e-i : tie.Need-bounds-e-i invariant-loop-i decreases-loop-i
+bounds-e-i c = omega (arith, c.loop-i.invariant.2)
 
-slice-write-part : tie.Need-slice-write-part invariant-loop decreases-loop
-slice-write-part c = search rules
+bounds-part-i-in-loop-i : tie.Need-bounds-part-i-in-loop-i invariant-loop-i decreases-loop-i
+bounds-part-i-in-loop-i c = search rules
 
-add-i : tie.Need-overflow-add-i invariant-loop decreases-loop
-add-i c = search rules
+overflow_add-i : tie.Need-overflow_add-i invariant-loop-i decreases-loop-i
+overflow_add-i c = search rules
 
-loop-less : tie.Need-loop-smaller invariant-loop decreases-loop
-loop-less c = omega (arith, c.before.before.loop.invariant.2)
+loop-i-smaller : tie.Need-loop-i-smaller invariant-loop-i decreases-loop-i
+loop-i-smaller c = omega (arith, c.loop-i.invariant.2)
 
-loop-again : tie.Need-loop-preserved invariant-loop decreases-loop
-loop-again c =
-    let l = c.before.before.loop in
-    let a = c.before.before.before.args in
-    let long : length a.t2 ≡ 16 = search rules in (
+loop-i-preserved : tie.Need-loop-i-preserved invariant-loop-i decreases-loop-i
+loop-i-preserved c =
+    let l = c.loop-i in
+    let a = c.args in
+    let long : length a.e ≡ 16 = search rules in (
       omega (arith, l.invariant.2),
-      one_more a.part.now a.t2 l.part l.i (omega (arith, l.invariant.2)) (omega arith) l.invariant.1,
+      one_more a.part.now a.e l.part l.i (omega (arith, l.invariant.2)) (omega arith) l.invariant.1,
       length-set l.part l.i _ ∙ l.invariant.2,
     )
 
-same_length : tie.Need-same-length invariant-loop decreases-loop
-same_length c = c.before.loop.invariant.2
+shape_of-part : tie.Need-shape_of-part invariant-loop-i decreases-loop-i
+shape_of-part c = c.loop-i.invariant.2
 
-returns : tie.Need-returns invariant-loop decreases-loop
+returns : tie.Need-returns invariant-loop-i decreases-loop-i
 returns c =
-    let l = c.before.loop in
-    let a = c.before.before.args in
+    let l = c.loop-i in
+    let a = c.args in
     let s = a.part.now in
-    let e = a.t2 in
+    let e = a.e in
     let long : length e ≡ 16 = search rules in
     let done : l.i ≡ length s = omega (arith, l.invariant.2) in
     l.invariant.1
@@ -66,14 +66,14 @@ pub mask_spec : {M : Type 1} → statement M
 mask_spec =
     tie.close
     (tie.spec
-    invariant-loop
-    decreases-loop
-    loop-holds
-    slice-read-part
-    array-read-part
-    slice-write-part
-    add-i
-    loop-less
-    loop-again
-    same_length
+    invariant-loop-i
+    decreases-loop-i
+    loop-i-init
+    bounds-part-i
+    bounds-e-i
+    bounds-part-i-in-loop-i
+    overflow_add-i
+    loop-i-smaller
+    loop-i-preserved
+    shape_of-part
     returns)

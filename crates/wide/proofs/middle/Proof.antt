@@ -9,73 +9,73 @@ use Rattle.wide.proofs.Steps.{middle_made}
 use Rattle.wide.proofs.middle.Statement.{statement}
 use Rattle.wide.proofs.middle.Tie as tie
 
-abbrev indices : tie.After-xor2 → tie.After-pairs-of
+abbrev indices : tie.After-xor-b → tie.After-pairs_of-i
 indices c = c.before.before
 
-abbrev start : tie.After-pairs-of → tie.Start
+abbrev start : tie.After-pairs_of-i → tie.Start
 start c = c.before.before.before.before
 
-load-requires : tie.Need-load-requires
-load-requires c κs = search rules
+load-mx-requires : tie.Need-load-mx-requires
+load-mx-requires c κs = search rules
 
-load-requires-2 : tie.Need-load-requires-2
-load-requires-2 c κs = search rules
+load-my-requires : tie.Need-load-my-requires
+load-my-requires c κs = search rules
 
-pairs-of-requires : tie.Need-pairs-of-requires
-pairs-of-requires c κs = search rules
+pairs_of-i-requires : tie.Need-pairs_of-i-requires
+pairs_of-i-requires c κs = search rules
 
-xor-requires : tie.Need-xor-requires
-xor-requires c κs = search rules
+xor-a-requires : tie.Need-xor-a-requires
+xor-a-requires c κs = search rules
 
-xor-requires-2 : tie.Need-xor-requires-2
-xor-requires-2 c κs = search rules
+xor-b-requires : tie.Need-xor-b-requires
+xor-b-requires c κs = search rules
 
-added-requires : tie.Need-added-requires
-added-requires c κs =
-    let i : tie.After-pairs-of = indices c in
+added-sx-requires : tie.Need-added-sx-requires
+added-sx-requires c κs =
+    let i : tie.After-pairs_of-i = indices c in
     let s = start i in
     let way = s.args.way in
-    (plain_of way i.pairs_of.result i.pairs_of.ensures (λ (e : EndPairs). e.x) (first_small way), s.pre.1)
+    (plain_of way i.pairs_of-i.result i.pairs_of-i.ensures (λ (e : EndPairs). e.x) (first_small way), s.requires.1)
 
-added-requires-2 : tie.Need-added-requires-2
-added-requires-2 c κs =
-    let i : tie.After-pairs-of = indices c.before in
+added-sy-requires : tie.Need-added-sy-requires
+added-sy-requires c κs =
+    let i : tie.After-pairs_of-i = indices c.before.before.before in
     let s = start i in
     let way = s.args.way in
-    (plain_of way i.pairs_of.result i.pairs_of.ensures (λ (e : EndPairs). e.xx) (first_small way), s.pre.1)
+    (plain_of way i.pairs_of-i.result i.pairs_of-i.ensures (λ (e : EndPairs). e.xx) (first_small way), s.requires.1)
 
-xor-requires-3 : tie.Need-xor-requires-3
-xor-requires-3 c κs = search rules
+xor-s-requires : tie.Need-xor-s-requires
+xor-s-requires c κs = search rules
 
 returns : tie.Need-returns
 returns c =
-    let sy : tie.After-added2 = c.before in
-    let sx : tie.After-added = sy.before in
-    let b : tie.After-xor2 = sx.before in
-    let a : tie.After-xor = b.before in
-    let i : tie.After-pairs-of = a.before in
-    let my : tie.After-load2 = i.before in
-    let mx : tie.After-load = my.before in
+    let sy : tie.After-added-sy = c.before in
+    let sx : tie.After-added-sx = sy.before.before in
+    let b : tie.After-xor-b = sx.before.before in
+    let a : tie.After-xor-a = b.before in
+    let i : tie.After-pairs_of-i = a.before in
+    let my : tie.After-load-my = i.before in
+    let mx : tie.After-load-mx = my.before in
     let s = (start i).args in
     let K = base s.k in
     let made =
     middle_made (E K) s.delta (first_of s.way) s.total s.last.now
-    mx.load.result my.load2.result a.xor.result b.xor2.result sx.added.result sy.added2.result
-    mx.load.ensures my.load2.ensures a.xor.ensures b.xor2.ensures
-    (added_of s.way i.pairs_of.result i.pairs_of.ensures (λ (e : EndPairs). e.x) K sx.added.result b.xor2.result my.load2.result sx.added.ensures)
-    (added_of s.way i.pairs_of.result i.pairs_of.ensures (λ (e : EndPairs). e.xx) K sy.added2.result my.load2.result sx.added.result sy.added2.ensures) in
-    (made.0, made.1, c.xor3.ensures)
+    mx.load-mx.result my.load-my.result a.xor-a.result b.xor-b.result sx.added-sx.result sy.added-sy.result
+    mx.load-mx.ensures my.load-my.ensures a.xor-a.ensures b.xor-b.ensures
+    (added_of s.way i.pairs_of-i.result i.pairs_of-i.ensures (λ (e : EndPairs). e.x) K sx.added-sx.result b.xor-b.result my.load-my.result sx.added-sx.ensures)
+    (added_of s.way i.pairs_of-i.result i.pairs_of-i.ensures (λ (e : EndPairs). e.xx) K sy.added-sy.result my.load-my.result sx.added-sx.result sy.added-sy.ensures) in
+    (made.0, made.1, c.xor-s.ensures)
 
 pub middle_spec : {M : Type 1} → statement M
 middle_spec =
     tie.close
     (tie.spec
-    load-requires
-    load-requires-2
-    pairs-of-requires
-    xor-requires
-    xor-requires-2
-    added-requires
-    added-requires-2
-    xor-requires-3
+    load-mx-requires
+    load-my-requires
+    pairs_of-i-requires
+    xor-a-requires
+    xor-b-requires
+    added-sx-requires
+    added-sy-requires
+    xor-s-requires
     returns)

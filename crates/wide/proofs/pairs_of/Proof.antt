@@ -4,17 +4,21 @@ use borrow.Author.Rules.{rules}
 use Rattle.wide.proofs.pairs_of.Statement.{statement}
 use Rattle.wide.proofs.pairs_of.Tie as tie
 
-enum_told : tie.Need-enum-told
-enum_told c = search rules
+enum_told-1 : tie.Need-enum_told-1
+enum_told-1 c = search rules
 
-enum-told-2 : tie.Need-enum-told-2
-enum-told-2 c = search rules
+enum_told-in-Decipher : tie.Need-enum_told-in-Decipher
+enum_told-in-Decipher c = search rules
 
-returns : tie.Need-returns
-returns c = rw c.enum_told.given.1 refl
+returns-in-Encipher : tie.Need-returns-in-Encipher
+returns-in-Encipher c = rw c.in-Encipher.is refl
 
-returns-2 : tie.Need-returns-2
-returns-2 c = rw c.enum-told2.given.1 refl
+returns-in-Decipher : tie.Need-returns-in-Decipher
+returns-in-Decipher c = rw c.in-Decipher.is refl
 
 pub pairs_of_spec : {M : Type 1} → statement M
-pairs_of_spec = tie.close (tie.spec enum_told enum-told-2 returns returns-2)
+pairs_of_spec = tie.close (tie.spec
+    enum_told-1
+    enum_told-in-Decipher
+    returns-in-Encipher
+    returns-in-Decipher)
