@@ -71,7 +71,7 @@ returns c =
     let written = (put c.before).put_log in
     let p = passed (put c.before) in
     let a = (start p.before).args in
-    wrote p.settled-number.result c.log_length-length.result (header (start p.before)) a.out.now written.new.out p.if-number-ne0.left c.log_length-length.ensures written.ensures
+    wrote p.settled-number.result c.log_length-length.result (header (start p.before)) a.out.now written.new.out p.if-number-ne0.false c.log_length-length.ensures written.ensures
     ∙ sym (builds_0 a.nonce.now a.host.now a.collector.now a.locale.now (accepted p).0 a.out.now (accepted p).1)
 
 pub log_header_spec : {M : Type 1} → statement M

@@ -11,120 +11,120 @@ use borrow.Author.Rules.{rules}
 use Rattle.day.proofs.check.Statement.{statement}
 use Rattle.day.proofs.check.Tie as tie
 
-abbrev start : tie.Else2 → tie.Start
+abbrev start : tie.Else-file-gt65536 → tie.Start
 start c = c.before.before.before
 
 -- what is known of the file once its headers are counted
-module _ (c : tie.After-four) where
+module _ (c : tie.After-four-headers) where
   abbrev f : Bytes
   f = (start c.before).args.file.now
 
   low : Below 256 f
-  low = below_of 256 f (λ i p. omega (arith, c.before.before.before.shared-slice-known.given i))
+  low = below_of 256 f (λ i p. omega (arith, c.shared_slice_known-1.given i))
 
   abbrev n : ℕ
-  n = c.four.result
+  n = c.four-headers.result
 
 -- and once they are passed
-module _ (c : tie.After-known-told) where
-  abbrev counted : tie.After-four
-  counted = c.before.before.before.before
+module _ (c : tie.In-To) where
+  abbrev counted : tie.After-four-headers
+  counted = c.before.before
 
   abbrev end : ℕ
-  end = c.before.end.given.0.0
+  end = c.in-To.end
 
   walked : HeadersWalk (To end) (f counted) (n counted)
-  walked = rw c.before.end.given.1 at c.before.before.before.headers-end.ensures
+  walked = rw c.in-To.is at c.headers_end.ensures
 
-returns : tie.Need-returns
-returns c = file_few c.before.before.args.file.now c.if1.true
+returns-then-file-lt4 : tie.Need-returns-then-file-lt4
+returns-then-file-lt4 c = file_few c.args.file.now c.if-file-lt4.true
 
-returns-2 : tie.Need-returns-2
-returns-2 c = file_long c.before.before.before.args.file.now c.if2.true
+returns-then-file-gt65536 : tie.Need-returns-then-file-gt65536
+returns-then-file-gt65536 c = file_long c.args.file.now c.if-file-gt65536.true
 
-four-requires : tie.Need-four-requires
-four-requires c κs = search rules
+four-headers-requires : tie.Need-four-headers-requires
+four-headers-requires c κs = search rules
 
-headers-end-requires : tie.Need-headers-end-requires
-headers-end-requires c κs = search rules
+headers_end-requires : tie.Need-headers_end-requires
+headers_end-requires c κs = search rules
 
-enum-known-end : tie.Need-enum-known-end
-enum-known-end c = search rules
+enum_known-end : tie.Need-enum_known-end
+enum_known-end c = search rules
 
-enum_told : tie.Need-enum-told
-enum_told c = search rules
+enum_told-1 : tie.Need-enum_told-1
+enum_told-1 c = search rules
 
-returns-3 : tie.Need-returns-3
-returns-3 c =
-    let w = c.before.before in
+returns-in_default : tie.Need-returns-in_default
+returns-in_default c =
+    let w = c.before in
     let h = w.before in
-    headers_bad (f h) (low h) (omega arith) (omega arith) (n h) h.four.ensures.0 (rw c.enum_told.given.1 at w.headers-end.ensures)
+    headers_bad (f h) (low h) (omega arith) (omega arith) (n h) h.four-headers.ensures.0 (rw c.in_default.is at w.headers_end.ensures)
 
-sub-if3 : tie.Need-overflow-sub-if3
-sub-if3 c = (walked c).0
+overflow_sub-file : tie.Need-overflow_sub-file
+overflow_sub-file c = (walked c).0
 
-returns-4 : tie.Need-returns-4
-returns-4 c =
+returns-then-file-end-lt4 : tie.Need-returns-then-file-end-lt4
+returns-then-file-end-lt4 c =
     let t = c.before in
     let h = counted t in
     let w = walked t in
-    records_few (f h) (low h) (omega arith) (omega arith) (n h) h.four.ensures.0 (end t) w.0 w.1.0 w.1.1 c.if3.true
+    records_few (f h) (low h) (omega arith) (omega arith) (n h) h.four-headers.ensures.0 (end t) w.0 w.1.0 w.1.1 c.if-file-end-lt4.true
 
-four-requires-2 : tie.Need-four-requires-2
-four-requires-2 c κs = search rules
+four-records-requires : tie.Need-four-records-requires
+four-records-requires c κs = search rules
 
-add-first : tie.Need-overflow-add-first
-add-first c = search rules
+overflow_add-first : tie.Need-overflow_add-first
+overflow_add-first c = search rules
 
-mul-if4 : tie.Need-overflow-mul-if4
-mul-if4 c = search rules
+overflow_mul-records : tie.Need-overflow_mul-records
+overflow_mul-records c = search rules
 
-returns-5 : tie.Need-returns-5
-returns-5 c =
+returns-then-file-records : tie.Need-returns-then-file-records
+returns-then-file-records c =
     let m = c.before in
     let t = m.before.before in
     let h = counted t in
     let w = walked t in
-    too_many (f h) (low h) (omega arith) (omega arith) (n h) h.four.ensures.0 (end t) w.0 w.1.0 w.1.1 m.before.if3.false m.four2.result m.four2.ensures.0 c.if4.true
+    too_many (f h) (low h) (omega arith) (omega arith) (n h) h.four-headers.ensures.0 (end t) w.0 w.1.0 w.1.1 m.if-file-end-lt4.false m.four-records.result m.four-records.ensures.0 c.if-file-records.true
 
-records-right-requires : tie.Need-records-right-requires
-records-right-requires c κs = search rules
+records_right-requires : tie.Need-records_right-requires
+records_right-requires c κs = search rules
 
-returns-6 : tie.Need-returns-6
-returns-6 c =
+returns-then-records_right : tie.Need-returns-then-records_right
+returns-then-records_right c =
     let r = c.before in
     let m = r.before.before in
     let t = m.before.before in
     let h = counted t in
     let w = walked t in
-    file_reads (f h) (low h) (omega arith) (omega arith) (n h) h.four.ensures.0 (end t) w.0 w.1.0 w.1.1 m.before.if3.false m.four2.result m.four2.ensures.0 (sym r.records-right.ensures ∙ c.if5.true)
+    file_reads (f h) (low h) (omega arith) (omega arith) (n h) h.four-headers.ensures.0 (end t) w.0 w.1.0 w.1.1 m.if-file-end-lt4.false m.four-records.result m.four-records.ensures.0 (sym r.records_right.ensures ∙ c.if-records_right.true)
 
-returns-7 : tie.Need-returns-7
-returns-7 c =
+returns : tie.Need-returns
+returns c =
     let r = c.before in
     let m = r.before.before in
     let t = m.before.before in
     let h = counted t in
     let w = walked t in
-    file_bad (f h) (low h) (omega arith) (omega arith) (n h) h.four.ensures.0 (end t) w.0 w.1.0 w.1.1 m.before.if3.false m.four2.result m.four2.ensures.0 (sym r.records-right.ensures ∙ c.if5.false)
+    file_bad (f h) (low h) (omega arith) (omega arith) (n h) h.four-headers.ensures.0 (end t) w.0 w.1.0 w.1.1 m.if-file-end-lt4.false m.four-records.result m.four-records.ensures.0 (sym r.records_right.ensures ∙ c.if-records_right.false)
 
 pub check_spec : {M : Type 1} → statement M
 check_spec =
     tie.close
     (tie.spec
-    returns
-    returns-2
-    four-requires
-    headers-end-requires
-    enum-known-end
-    enum_told
-    returns-3
-    sub-if3
-    returns-4
-    four-requires-2
-    add-first
-    mul-if4
-    returns-5
-    records-right-requires
-    returns-6
-    returns-7)
+    returns-then-file-lt4
+    returns-then-file-gt65536
+    four-headers-requires
+    headers_end-requires
+    enum_known-end
+    enum_told-1
+    returns-in_default
+    overflow_sub-file
+    returns-then-file-end-lt4
+    four-records-requires
+    overflow_add-first
+    overflow_mul-records
+    returns-then-file-records
+    records_right-requires
+    returns-then-records_right
+    returns)

@@ -17,143 +17,143 @@ use Rattle.day.proofs.Index.{pending, begun, records_turn, records_wrong, record
 use Rattle.day.proofs.records_right.Statement.{statement}
 use Rattle.day.proofs.records_right.Tie as tie
 
-abbrev invariant-loop : tie.invariant-loop
-invariant-loop file headers records first at₀ place₀ left₀ at place left =
+abbrev invariant-loop-left : tie.invariant-loop-left
+invariant-loop-left file headers records first at₀ place₀ left₀ at place left =
     (at ≤ length file) × (left ≤ records) × (place + 4 * left ≡ length file)
     × (right_index first (read_records headers records (drop first file)) ≡ pending file records at place (read_records headers left (drop at file)))
 
-abbrev decreases-loop : tie.decreases-loop
-decreases-loop file headers records first at₀ place₀ left₀ at place left = left
+abbrev decreases-loop-left : tie.decreases-loop-left
+decreases-loop-left file headers records first at₀ place₀ left₀ at place left = left
 
-abbrev start : tie.At-loop invariant-loop decreases-loop → tie.Start invariant-loop decreases-loop
+abbrev start : tie.At-loop-left invariant-loop-left decreases-loop-left → tie.Start invariant-loop-left decreases-loop-left
 start c = c.before.before
 
 -- the file's bytes are below 256
-low : (c : tie.After-shared-slice-known invariant-loop decreases-loop) → Below 256 c.before.args.file.now
-low c = below_of 256 c.before.args.file.now (λ i p. omega (arith, c.shared-slice-known.given i))
+low : (c : tie.After-shared_slice_known-1 invariant-loop-left decreases-loop-left) → Below 256 c.args.file.now
+low c = below_of 256 c.args.file.now (λ i p. omega (arith, c.shared_slice_known-1.given i))
 
-abbrev looped : tie.After-record-at invariant-loop decreases-loop → tie.At-loop invariant-loop decreases-loop
+abbrev looped : tie.After-record_at invariant-loop-left decreases-loop-left → tie.At-loop-left invariant-loop-left decreases-loop-left
 looped c = c.before.before
 
 -- the record that was read
-module _ (c : tie.After-known-told invariant-loop decreases-loop) where
-  abbrev read : tie.After-record-at invariant-loop decreases-loop
-  read = c.before.before.before
+module _ (c : tie.In-To invariant-loop-left decreases-loop-left) where
+  abbrev read : tie.After-record_at invariant-loop-left decreases-loop-left
+  read = c.before
 
   abbrev e : Entry
-  e = c.before.e.given.0.0
+  e = c.in-To.e
 
-  step : RecordStep (To e) (start (looped read)).args.file.now (start (looped read)).args.headers (looped read).loop.at
+  step : RecordStep (To e) (start (looped read)).args.file.now (start (looped read)).args.headers (looped read).loop-left.at
   step =
-      subst (λ (x : Step). RecordStep x (start (looped read)).args.file.now (start (looped read)).args.headers (looped read).loop.at)
-      c.before.e.given.1 read.record-at.ensures
+      subst (λ (x : Step). RecordStep x (start (looped read)).args.file.now (start (looped read)).args.headers (looped read).loop-left.at)
+      c.in-To.is read.record_at.ensures
 
-mul-place : tie.Need-overflow-mul-place invariant-loop decreases-loop
-mul-place c = search rules
+overflow_mul-place : tie.Need-overflow_mul-place invariant-loop-left decreases-loop-left
+overflow_mul-place c = search rules
 
-sub-place : tie.Need-overflow-sub-place invariant-loop decreases-loop
-sub-place c = search rules
+overflow_sub-place : tie.Need-overflow_sub-place invariant-loop-left decreases-loop-left
+overflow_sub-place c = search rules
 
-loop-holds : tie.Need-loop-init invariant-loop decreases-loop
-loop-holds c =
-    let a = c.before.args in
-    (c.before.requires.0, omega arith, omega arith, begun a.file.now (low c) c.before.requires.1 a.records a.headers a.first c.before.requires.0)
+loop-left-init : tie.Need-loop-left-init invariant-loop-left decreases-loop-left
+loop-left-init c =
+    let a = c.args in
+    (c.requires.0, omega arith, omega arith, begun a.file.now (low c) c.requires.1 a.records a.headers a.first c.requires.0)
 
-record-at-requires : tie.Need-record-at-requires invariant-loop decreases-loop
-record-at-requires c κs = search rules
+record_at-requires : tie.Need-record_at-requires invariant-loop-left decreases-loop-left
+record_at-requires c κs = search rules
 
-enum-known-e : tie.Need-enum-known-e invariant-loop decreases-loop
-enum-known-e c = search rules
+enum_known-e : tie.Need-enum_known-e invariant-loop-left decreases-loop-left
+enum_known-e c = search rules
 
-enum_told : tie.Need-enum-told invariant-loop decreases-loop
-enum_told c = search rules
+enum_told-1 : tie.Need-enum_told-1 invariant-loop-left decreases-loop-left
+enum_told-1 c = search rules
 
-returns : tie.Need-returns invariant-loop decreases-loop
-returns c =
-    let r = c.before.before in
+returns-in_default : tie.Need-returns-in_default invariant-loop-left decreases-loop-left
+returns-in_default c =
+    let r = c.before in
     let at_loop = looped r in
-    let l = at_loop.loop in
+    let l = at_loop.loop-left in
     let a = (start at_loop).args in
-    let s : RecordStep Bad a.file.now a.headers l.at = rw c.enum_told.given.1 at r.record-at.ensures in
-    sym (l.invariant.3 ∙ records_stop a.file.now (low at_loop.before) (start at_loop).pre.1 a.records a.headers l.left l.at l.place (omega arith) l.invariant.0 (omega arith) s)
+    let s : RecordStep Bad a.file.now a.headers l.at = rw c.in_default.is at r.record_at.ensures in
+    sym (l.invariant.3 ∙ records_stop a.file.now (low at_loop.before) (start at_loop).requires.1 a.records a.headers l.left l.at l.place (omega arith) l.invariant.0 (omega arith) s)
 
-four-requires : tie.Need-four-requires invariant-loop decreases-loop
+four-requires : tie.Need-four-requires invariant-loop-left decreases-loop-left
 four-requires c κs = search rules
 
-returns-2 : tie.Need-returns-2 invariant-loop decreases-loop
-returns-2 c =
+returns-then-four-at : tie.Need-returns-then-four-at invariant-loop-left decreases-loop-left
+returns-then-four-at c =
     let told = c.before.before in
     let at_loop = looped (read told) in
-    let l = at_loop.loop in
+    let l = at_loop.loop-left in
     let a = (start at_loop).args in
-    sym (l.invariant.3 ∙ records_wrong a.file.now (low at_loop.before) (start at_loop).pre.1 a.records a.headers l.left l.at l.place (omega arith) l.invariant.0 (omega arith) (e told) (step told) (λ w. c.if1.true (c.before.four.ensures.0 ∙ w)))
+    sym (l.invariant.3 ∙ records_wrong a.file.now (low at_loop.before) (start at_loop).requires.1 a.records a.headers l.left l.at l.place (omega arith) l.invariant.0 (omega arith) (e told) (step told) (λ w. c.if-four-at.true (c.four.ensures.0 ∙ w)))
 
-add-place : tie.Need-overflow-add-place invariant-loop decreases-loop
-add-place c = search rules
+overflow_add-place : tie.Need-overflow_add-place invariant-loop-left decreases-loop-left
+overflow_add-place c = search rules
 
-sub-left : tie.Need-overflow-sub-left invariant-loop decreases-loop
-sub-left c = search rules
+overflow_sub-left : tie.Need-overflow_sub-left invariant-loop-left decreases-loop-left
+overflow_sub-left c = search rules
 
-loop-less : tie.Need-loop-smaller invariant-loop decreases-loop
-loop-less c = search rules
+loop-left-smaller : tie.Need-loop-left-smaller invariant-loop-left decreases-loop-left
+loop-left-smaller c = search rules
 
-loop-again : tie.Need-loop-preserved invariant-loop decreases-loop
-loop-again c =
+loop-left-preserved : tie.Need-loop-left-preserved invariant-loop-left decreases-loop-left
+loop-left-preserved c =
     let told = c.before.before in
     let at_loop = looped (read told) in
-    let l = at_loop.loop in
+    let l = at_loop.loop-left in
     let a = (start at_loop).args in
-    ((step told).1, omega arith, omega arith, l.invariant.3 ∙ records_turn a.file.now (low at_loop.before) (start at_loop).pre.1 a.records a.headers l.left l.at l.place (omega arith) l.invariant.0 (omega arith) (e told) (step told) (sym c.before.four.ensures.0 ∙ c.if1.false))
+    ((step told).1, omega arith, omega arith, l.invariant.3 ∙ records_turn a.file.now (low at_loop.before) (start at_loop).requires.1 a.records a.headers l.left l.at l.place (omega arith) l.invariant.0 (omega arith) (e told) (step told) (sym c.four.ensures.0 ∙ c.if-four-at.false))
 
-sub-if2 : tie.Need-overflow-sub-if2 invariant-loop decreases-loop
-sub-if2 c = search rules
+overflow_sub-file : tie.Need-overflow_sub-file invariant-loop-left decreases-loop-left
+overflow_sub-file c = search rules
 
-mul-if2 : tie.Need-overflow-mul-if2 invariant-loop decreases-loop
-mul-if2 c = search rules
+overflow_mul-records : tie.Need-overflow_mul-records invariant-loop-left decreases-loop-left
+overflow_mul-records c = search rules
 
-add-if2 : tie.Need-overflow-add-if2 invariant-loop decreases-loop
-add-if2 c = search rules
+overflow_add-records : tie.Need-overflow_add-records invariant-loop-left decreases-loop-left
+overflow_add-records c = search rules
 
-returns-3 : tie.Need-returns-3 invariant-loop decreases-loop
-returns-3 c =
+returns-then-file-at : tie.Need-returns-then-file-at invariant-loop-left decreases-loop-left
+returns-then-file-at c =
     let at_loop = c.before.before in
-    let l = at_loop.loop in
+    let l = at_loop.loop-left in
     let a = (start at_loop).args in
-    sym (l.invariant.3 ∙ count_wrong a.file.now (low at_loop.before) (start at_loop).requires.1 a.records a.headers l.left l.at l.place c.before.loop-test.false l.invariant.0 (omega arith) c.if2.true)
+    sym (l.invariant.3 ∙ count_wrong a.file.now (low at_loop.before) (start at_loop).requires.1 a.records a.headers l.left l.at l.place c.loop-left-test.false l.invariant.0 (omega arith) c.if-file-at.true)
 
-four-requires-2 : tie.Need-four-requires-2 invariant-loop decreases-loop
+four-requires-2 : tie.Need-four-requires-2 invariant-loop-left decreases-loop-left
 four-requires-2 c κs = search rules
 
-returns-4 : tie.Need-returns-4 invariant-loop decreases-loop
-returns-4 c =
+returns : tie.Need-returns invariant-loop-left decreases-loop-left
+returns c =
     let at_loop = c.before.before.before in
-    let l = at_loop.loop in
+    let l = at_loop.loop-left in
     let a = (start at_loop).args in
-    ap (λ (n : ℕ). eqb n a.records) c.four2.ensures.0
-    ∙ sym (l.invariant.3 ∙ count_last a.file.now (low at_loop.before) (start at_loop).requires.1 a.records a.headers l.left l.at l.place c.before.before.loop-test.false l.invariant.0 (omega arith) c.before.if2.false)
+    ap (λ (n : ℕ). eqb n a.records) c.four-2.ensures.0
+    ∙ sym (l.invariant.3 ∙ count_last a.file.now (low at_loop.before) (start at_loop).requires.1 a.records a.headers l.left l.at l.place c.loop-left-test.false l.invariant.0 (omega arith) c.if-file-at.false)
 
 pub records_right_spec : {M : Type 1} → statement M
 records_right_spec =
     tie.close
     (tie.spec
-    invariant-loop
-    decreases-loop
-    mul-place
-    sub-place
-    loop-holds
-    record-at-requires
-    enum-known-e
-    enum_told
-    returns
+    invariant-loop-left
+    decreases-loop-left
+    overflow_mul-place
+    overflow_sub-place
+    loop-left-init
+    record_at-requires
+    enum_known-e
+    enum_told-1
+    returns-in_default
     four-requires
-    returns-2
-    add-place
-    sub-left
-    loop-less
-    loop-again
-    sub-if2
-    mul-if2
-    add-if2
-    returns-3
+    returns-then-four-at
+    overflow_add-place
+    overflow_sub-left
+    loop-left-smaller
+    loop-left-preserved
+    overflow_sub-file
+    overflow_mul-records
+    overflow_add-records
+    returns-then-file-at
     four-requires-2
-    returns-4)
+    returns)

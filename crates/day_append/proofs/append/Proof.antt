@@ -12,152 +12,152 @@ use borrow.Author.Rules.{rules}
 use Rattle.day_append.proofs.append.Statement.{statement}
 use Rattle.day_append.proofs.append.Tie as tie
 
-abbrev start : tie.Else1 → tie.Start
+abbrev start : tie.Else-buffer-size → tie.Start
 start c = c.before.before.before.before
 
 -- the file reads
-module _ (c : tie.After-known-told) where
+module _ (c : tie.In-Day) where
   abbrev checked_file : tie.After-check
-  checked_file = c.before.before.before
+  checked_file = c.before
 
-  abbrev inside : tie.Else1
-  inside = checked_file.before.before
+  abbrev inside : tie.Else-buffer-size
+  inside = checked_file.before
 
   abbrev asked : Asked
   asked =
       let a = (start inside).args in
-      let given = c.before.headers.given in
+      let given = c.in-Day in
       record {
         buffer = a.buffer.now;
-        low = below_of 256 a.buffer.now (λ i p. omega (arith, inside.before.before.before.slice-known.given i));
+        low = below_of 256 a.buffer.now (λ i p. omega (arith, inside.slice_known-1.given i));
         size = a.size;
-        inside = inside.if1.left;
+        inside = inside.if-buffer-size.false;
         number = a.number;
         header = a.header.now;
         stretch = a.stretch;
         sealed = a.sealed.now;
-        headers = given.0.0;
-        records = given.0.1.0;
-        first = given.0.1.1.0;
-        counted = counted (take a.size a.buffer.now) given.0.0 given.0.1.0 given.0.1.1.0 (sym given.1 ∙ checked_file.check.ensures);
+        headers = given.headers;
+        records = given.records;
+        first = given.first;
+        counted = counted (take a.size a.buffer.now) given.headers given.records given.first (sym given.is ∙ checked_file.check.ensures);
       }
 
-returns : tie.Need-returns
-returns c =
-    let a = c.before.before.before.before.args in
-    past_buffer a.buffer.now a.size a.number a.header.now a.stretch a.sealed.now c.if1.true
+returns-then-buffer-size : tie.Need-returns-then-buffer-size
+returns-then-buffer-size c =
+    let a = c.args in
+    past_buffer a.buffer.now a.size a.number a.header.now a.stretch a.sealed.now c.if-buffer-size.true
 
-slice-reshare-prefix-check : tie.Need-slice-reshare-prefix-check
-slice-reshare-prefix-check c = search rules
+slice_bounds-check-end : tie.Need-slice_bounds-check-end
+slice_bounds-check-end c = search rules
 
-slice-aggregate-check : tie.Need-slice-aggregate-check
-slice-aggregate-check c = let e = c.before in sym (length-take-le (start e).args.size (start e).args.buffer.now e.if1.false)
+slice_bounds-check-end-2 : tie.Need-slice_bounds-check-end-2
+slice_bounds-check-end-2 c = let e = c in sym (length-take-le (start e).args.size (start e).args.buffer.now e.if-buffer-size.false)
 
 check-requires : tie.Need-check-requires
 check-requires c κs = search rules
 
-enum-known-headers : tie.Need-enum-known-headers
-enum-known-headers c = search rules
+enum_known-headers : tie.Need-enum_known-headers
+enum_known-headers c = search rules
 
-enum_told : tie.Need-enum-told
-enum_told c = search rules
+enum_told-1 : tie.Need-enum_told-1
+enum_told-1 c = search rules
 
-same_length : tie.Need-same-length
-same_length c = search rules
+shape_of-buffer-in_default : tie.Need-shape_of-buffer-in_default
+shape_of-buffer-in_default c = search rules
 
-returns-2 : tie.Need-returns-2
-returns-2 c =
-    let h = c.before.before in
-    let e = h.before.before in
+returns-in_default : tie.Need-returns-in_default
+returns-in_default c =
+    let h = c.before in
+    let e = h.before in
     let a = (start e).args in
-    unread a.buffer.now a.size a.number a.header.now a.stretch a.sealed.now e.if1.false (rw c.enum_told.given.1 at h.check.ensures)
+    unread a.buffer.now a.size a.number a.header.now a.stretch a.sealed.now e.if-buffer-size.false (rw c.in_default.is at h.check.ensures)
 
 -- the append is within the layout
-module _ (g : tie.After-grown-size) where
-  abbrev told : tie.After-known-told
+module _ (g : tie.After-grown_size-n) where
+  abbrev told : tie.In-Day
   told = g.before.before.before
 
   abbrev q : Asked
   q = asked told
 
   fit : true ≡ append_fits q.number q.header q.stretch q.headers
-  fit = sym g.before.if2.taken ∙ g.before.before.fits2.ensures
+  fit = sym g.if-fits.true ∙ g.before.before.fits.ensures
 
 fits-requires : tie.Need-fits-requires
 fits-requires c κs = search rules
 
-grown-size-requires : tie.Need-grown-size-requires
-grown-size-requires c κs =
+grown_size-n-requires : tie.Need-grown_size-n-requires
+grown_size-n-requires c κs =
     let t = c.before.before in
     size_short (asked t)
 
-same-length-2 : tie.Need-same-length-2
-same-length-2 c = search rules
+shape_of-buffer-then-n-gt65536 : tie.Need-shape_of-buffer-then-n-gt65536
+shape_of-buffer-then-n-gt65536 c = search rules
 
-returns-3 : tie.Need-returns-3
-returns-3 c =
+returns-then-n-gt65536 : tie.Need-returns-then-n-gt65536
+returns-then-n-gt65536 c =
     let g = c.before in
     let t = told g in
-    too_long_lem (asked t) (fit g) g.grown-size.result g.grown-size.ensures c.if3.true
+    too_long_lem (asked t) (fit g) g.grown_size-n.result g.grown_size-n.ensures c.if-n-gt65536.true
 
-same-length-3 : tie.Need-same-length-3
-same-length-3 c = search rules
+shape_of-buffer-then-buffer-n : tie.Need-shape_of-buffer-then-buffer-n
+shape_of-buffer-then-buffer-n c = search rules
 
-returns-4 : tie.Need-returns-4
-returns-4 c =
+returns-then-buffer-n : tie.Need-returns-then-buffer-n
+returns-then-buffer-n c =
     let e = c.before in
     let g = e.before in
     let t = told g in
-    no_room (asked t) (fit g) g.grown-size.result g.grown-size.ensures e.if3.false c.if4.true
+    no_room (asked t) (fit g) g.grown_size-n.result g.grown_size-n.ensures e.if-n-gt65536.false c.if-buffer-n.true
 
-put-grown-requires : tie.Need-put-grown-requires
-put-grown-requires c κs =
+put_grown-requires : tie.Need-put_grown-requires
+put_grown-requires c κs =
     let r = c.before in
     let e = r.before in
     let g = e.before in
     let t = told g in
-    ready (asked t) (fit g) g.grown-size.result g.grown-size.ensures e.if3.false r.if4.false
+    ready (asked t) (fit g) g.grown_size-n.result g.grown_size-n.ensures e.if-n-gt65536.false r.if-buffer-n.false
 
-same-length-4 : tie.Need-same-length-4
-same-length-4 c = search rules
+shape_of-buffer-then-fits : tie.Need-shape_of-buffer-then-fits
+shape_of-buffer-then-fits c = search rules
 
-returns-5 : tie.Need-returns-5
-returns-5 c =
+returns-then-fits : tie.Need-returns-then-fits
+returns-then-fits c =
     let p = c.before.before in
     let r = p.before.before in
     let e = r.before in
     let g = e.before in
     let t = told g in
-    appended (asked t) (fit g) g.grown-size.result g.grown-size.ensures e.if3.false r.if4.false p.put-grown.new.0 p.put-grown.ensures
+    appended (asked t) (fit g) g.grown_size-n.result g.grown_size-n.ensures e.if-n-gt65536.false r.if-buffer-n.false p.put_grown.new.out p.put_grown.ensures
 
-same-length-5 : tie.Need-same-length-5
-same-length-5 c = search rules
+shape_of-buffer : tie.Need-shape_of-buffer
+shape_of-buffer c = search rules
 
-returns-6 : tie.Need-returns-6
-returns-6 c =
+returns : tie.Need-returns
+returns c =
     let t = c.before.before in
-    unfit (asked t) (sym c.if2.false ∙ c.before.fits2.ensures)
+    unfit (asked t) (sym c.if-fits.false ∙ c.before.fits.ensures)
 
 pub append_spec : {M : Type 1} → statement M
 append_spec =
     tie.close
     (tie.spec
-    returns
-    slice-reshare-prefix-check
-    slice-aggregate-check
+    returns-then-buffer-size
+    slice_bounds-check-end
+    slice_bounds-check-end-2
     check-requires
-    enum-known-headers
-    enum_told
-    same_length
-    returns-2
+    enum_known-headers
+    enum_told-1
+    shape_of-buffer-in_default
+    returns-in_default
     fits-requires
-    grown-size-requires
-    same-length-2
-    returns-3
-    same-length-3
-    returns-4
-    put-grown-requires
-    same-length-4
-    returns-5
-    same-length-5
-    returns-6)
+    grown_size-n-requires
+    shape_of-buffer-then-n-gt65536
+    returns-then-n-gt65536
+    shape_of-buffer-then-buffer-n
+    returns-then-buffer-n
+    put_grown-requires
+    shape_of-buffer-then-fits
+    returns-then-fits
+    shape_of-buffer
+    returns)

@@ -3,11 +3,13 @@ use Rattle.day_append.proofs.Settles.{capped_over, capped_under}
 use Rattle.day_append.proofs.cap.Statement.{statement}
 use Rattle.day_append.proofs.cap.Tie as tie
 
-returns : tie.Need-returns
-returns c = capped_over c.before.args.n c.if1.true
+returns-then-n-gt65536 : tie.Need-returns-then-n-gt65536
+returns-then-n-gt65536 c = capped_over c.args.n c.if-n-gt65536.true
 
-returns-2 : tie.Need-returns-2
-returns-2 c = capped_under c.before.args.n c.if1.false
+returns : tie.Need-returns
+returns c = capped_under c.args.n c.if-n-gt65536.false
 
 pub cap_spec : {M : Type 1} → statement M
-cap_spec = tie.close (tie.spec returns returns-2)
+cap_spec = tie.close (tie.spec
+    returns-then-n-gt65536
+    returns)

@@ -9,74 +9,74 @@ use borrow.Author.Rules.{rules}
 use Rattle.day_append.proofs.grown_size.Statement.{statement}
 use Rattle.day_append.proofs.grown_size.Tie as tie
 
-abbrev start : tie.Else1 → tie.Start
+abbrev start : tie.Else-sealed-gt65536 → tie.Start
 start c = c.before.before.before
 
-returns : tie.Need-returns
-returns c =
-    let a = c.before.before.before.args in
-    capped_over (a.size + taken a.number a.header.now a.headers + 11 + length a.sealed.now) (omega (arith, c.if1.true))
+returns-then-sealed-gt65536 : tie.Need-returns-then-sealed-gt65536
+returns-then-sealed-gt65536 c =
+    let a = c.args in
+    capped_over (a.size + taken a.number a.header.now a.headers + 11 + length a.sealed.now) (omega (arith, c.if-sealed-gt65536.true))
 
-add-cap : tie.Need-overflow-add-cap
-add-cap c = search rules
+overflow_add-size : tie.Need-overflow_add-size
+overflow_add-size c = search rules
 
-add-cap-2 : tie.Need-overflow-add-cap-2
-add-cap-2 c = search rules
+overflow_add-size-then-number-headers : tie.Need-overflow_add-size-then-number-headers
+overflow_add-size-then-number-headers c = search rules
 
 cap-requires : tie.Need-cap-requires
 cap-requires c κs = search rules
 
-returns-2 : tie.Need-returns-2
-returns-2 c =
+returns-then-number-headers : tie.Need-returns-then-number-headers
+returns-then-number-headers c =
     let t = c.before in
     let a = (start t.before).args in
     let same : a.size + 11 + length a.sealed.now ≡ a.size + taken a.number a.header.now a.headers + 11 + length a.sealed.now =
-    omega (arith, taken_there a.number a.header.now 0 a.headers t.if2.true) in
+    omega (arith, taken_there a.number a.header.now 0 a.headers t.if-number-headers.true) in
     c.cap.ensures ∙ ap capped same
 
-returns-3 : tie.Need-returns-3
-returns-3 c =
+returns-then-header-gt65536 : tie.Need-returns-then-header-gt65536
+returns-then-header-gt65536 c =
     let e = c.before in
     let a = (start e.before).args in
     capped_over (a.size + taken a.number a.header.now a.headers + 11 + length a.sealed.now)
-    (omega (arith, c.if3.true, taken_next a.number a.header.now 0 a.headers e.if2.false))
+    (omega (arith, c.if-header-gt65536.true, taken_next a.number a.header.now 0 a.headers e.if-number-headers.false))
 
-add-cap-3 : tie.Need-overflow-add-cap-3
-add-cap-3 c = search rules
+overflow_add-size-2 : tie.Need-overflow_add-size-2
+overflow_add-size-2 c = search rules
 
-add-cap-4 : tie.Need-overflow-add-cap-4
-add-cap-4 c = search rules
+overflow_add-size-3 : tie.Need-overflow_add-size-3
+overflow_add-size-3 c = search rules
 
-add-cap-5 : tie.Need-overflow-add-cap-5
-add-cap-5 c = search rules
+overflow_add-size-4 : tie.Need-overflow_add-size-4
+overflow_add-size-4 c = search rules
 
-add-cap-6 : tie.Need-overflow-add-cap-6
-add-cap-6 c = search rules
+overflow_add-size-5 : tie.Need-overflow_add-size-5
+overflow_add-size-5 c = search rules
 
 cap-requires-2 : tie.Need-cap-requires-2
 cap-requires-2 c κs = search rules
 
-returns-4 : tie.Need-returns-4
-returns-4 c =
+returns : tie.Need-returns
+returns c =
     let e = c.before.before in
     let a = (start e.before).args in
     let same : a.size + 2 + length a.header.now + 11 + length a.sealed.now ≡ a.size + taken a.number a.header.now a.headers + 11 + length a.sealed.now =
-    omega (arith, taken_next a.number a.header.now 0 a.headers e.if2.false) in
-    c.cap2.ensures ∙ ap capped same
+    omega (arith, taken_next a.number a.header.now 0 a.headers e.if-number-headers.false) in
+    c.cap-2.ensures ∙ ap capped same
 
 pub grown_size_spec : {M : Type 1} → statement M
 grown_size_spec =
     tie.close
     (tie.spec
-    returns
-    add-cap
-    add-cap-2
+    returns-then-sealed-gt65536
+    overflow_add-size
+    overflow_add-size-then-number-headers
     cap-requires
-    returns-2
-    returns-3
-    add-cap-3
-    add-cap-4
-    add-cap-5
-    add-cap-6
+    returns-then-number-headers
+    returns-then-header-gt65536
+    overflow_add-size-2
+    overflow_add-size-3
+    overflow_add-size-4
+    overflow_add-size-5
     cap-requires-2
-    returns-4)
+    returns)

@@ -9,75 +9,75 @@ use Rattle.day_pack.proofs.Beside.{rising_low, rising_absent, rising_turn, risin
 use Rattle.day_clear.proofs.rising.Statement.{statement}
 use Rattle.day_clear.proofs.rising.Tie as tie
 
-abbrev invariant-loop : tie.invariant-loop
-invariant-loop dropped records low₀ i₀ low i = (i ≤ length dropped) × (rising_from 0 records dropped ≡ rising_from low records (drop i dropped))
+abbrev invariant-loop-i : tie.invariant-loop-i
+invariant-loop-i dropped records low₀ i₀ low i = (i ≤ length dropped) × (rising_from 0 records dropped ≡ rising_from low records (drop i dropped))
 
-abbrev decreases-loop : tie.decreases-loop
-decreases-loop dropped records low₀ i₀ low i = length dropped - i
+abbrev decreases-loop-i : tie.decreases-loop-i
+decreases-loop-i dropped records low₀ i₀ low i = length dropped - i
 
-abbrev turn : tie.After-shared-slice-known invariant-loop decreases-loop → tie.In-loop invariant-loop decreases-loop
+abbrev turn : tie.After-shared_slice_known-1 invariant-loop-i decreases-loop-i → tie.In-loop-i invariant-loop-i decreases-loop-i
 turn c = c.before
 
-loop-holds : tie.Need-loop-init invariant-loop decreases-loop
-loop-holds c = (omega arith, refl)
+loop-i-init : tie.Need-loop-i-init invariant-loop-i decreases-loop-i
+loop-i-init c = (omega arith, refl)
 
-mul-n : tie.Need-overflow-mul-n invariant-loop decreases-loop
-mul-n c = search rules
+offset_bounds-dropped-i : tie.Need-offset_bounds-dropped-i invariant-loop-i decreases-loop-i
+offset_bounds-dropped-i c = search rules
 
-shared-slice-read-n : tie.Need-shared-slice-read-n invariant-loop decreases-loop
-shared-slice-read-n c = search rules
+bounds-dropped-i : tie.Need-bounds-dropped-i invariant-loop-i decreases-loop-i
+bounds-dropped-i c = search rules
 
-returns : tie.Need-returns invariant-loop decreases-loop
-returns c =
+returns-then-n-low : tie.Need-returns-then-n-low invariant-loop-i decreases-loop-i
+returns-then-n-low c =
     let t = turn c.before in
-    let l = t.before.loop in
-    let a = t.before.before.args in
-    rising_low a.dropped.now a.records l.i l.low t.loop-test.taken c.if1.true ∙ sym l.invariant.1
+    let l = t.loop-i in
+    let a = t.args in
+    rising_low a.dropped.now a.records l.i l.low t.loop-i-test.true c.if-n-low.true ∙ sym l.invariant.1
 
-returns-2 : tie.Need-returns-2 invariant-loop decreases-loop
-returns-2 c =
+returns-then-records-n : tie.Need-returns-then-records-n invariant-loop-i decreases-loop-i
+returns-then-records-n c =
     let e = c.before in
     let t = turn e.before in
-    let l = t.before.loop in
-    let a = t.before.before.args in
-    rising_absent a.dropped.now a.records l.i l.low t.loop-test.taken e.if1.false c.if2.true ∙ sym l.invariant.1
+    let l = t.loop-i in
+    let a = t.args in
+    rising_absent a.dropped.now a.records l.i l.low t.loop-i-test.true e.if-n-low.false c.if-records-n.true ∙ sym l.invariant.1
 
-add_low : tie.Need-overflow-add-low invariant-loop decreases-loop
-add_low c = search rules
+overflow_add-low : tie.Need-overflow_add-low invariant-loop-i decreases-loop-i
+overflow_add-low c = search rules
 
-add-i : tie.Need-overflow-add-i invariant-loop decreases-loop
-add-i c = search rules
+overflow_add-i : tie.Need-overflow_add-i invariant-loop-i decreases-loop-i
+overflow_add-i c = search rules
 
-loop-less : tie.Need-loop-smaller invariant-loop decreases-loop
-loop-less c = search rules
+loop-i-smaller : tie.Need-loop-i-smaller invariant-loop-i decreases-loop-i
+loop-i-smaller c = search rules
 
-loop-again : tie.Need-loop-preserved invariant-loop decreases-loop
-loop-again c =
+loop-i-preserved : tie.Need-loop-i-preserved invariant-loop-i decreases-loop-i
+loop-i-preserved c =
     let e = c.before in
     let t = turn e.before in
-    let l = t.before.loop in
-    let a = t.before.before.args in
-    (omega arith, l.invariant.1 ∙ rising_turn a.dropped.now a.records l.i l.low t.loop-test.taken e.if1.false c.if2.false)
+    let l = t.loop-i in
+    let a = t.args in
+    (omega arith, l.invariant.1 ∙ rising_turn a.dropped.now a.records l.i l.low t.loop-i-test.true e.if-n-low.false c.if-records-n.false)
 
-returns-3 : tie.Need-returns-3 invariant-loop decreases-loop
-returns-3 c =
-    let l = c.before.loop in
-    let a = c.before.before.args in
-    sym (l.invariant.1 ∙ rising_end a.dropped.now a.records l.i l.low c.loop-test.false)
+returns : tie.Need-returns invariant-loop-i decreases-loop-i
+returns c =
+    let l = c.loop-i in
+    let a = c.args in
+    sym (l.invariant.1 ∙ rising_end a.dropped.now a.records l.i l.low c.loop-i-test.false)
 
 pub rising_spec : {M : Type 1} → statement M
 rising_spec =
     tie.close
     (tie.spec
-    invariant-loop
-    decreases-loop
-    loop-holds
-    mul-n
-    shared-slice-read-n
-    returns
-    returns-2
-    add_low
-    add-i
-    loop-less
-    loop-again
-    returns-3)
+    invariant-loop-i
+    decreases-loop-i
+    loop-i-init
+    offset_bounds-dropped-i
+    bounds-dropped-i
+    returns-then-n-low
+    returns-then-records-n
+    overflow_add-low
+    overflow_add-i
+    loop-i-smaller
+    loop-i-preserved
+    returns)

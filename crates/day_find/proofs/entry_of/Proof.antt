@@ -8,49 +8,56 @@ use Rattle.day_find.proofs.entry_of.Statement.{statement}
 use Rattle.day_find.proofs.entry_of.Tie as tie
 
 -- the record that is asked for
-module _ (c : tie.After-shared-slice-known) where
+module _ (c : tie.After-shared_slice_known-1) where
   abbrev f : Bytes
-  f = c.before.args.file.now
+  f = c.args.file.now
 
   abbrev records : ℕ
-  records = c.before.args.records
+  records = c.args.records
 
   abbrev k : ℕ
-  k = c.before.args.k
+  k = c.args.k
 
   low : Below 256 f
-  low = below_of 256 f (λ i p. omega (arith, c.shared-slice-known.given i))
+  low = below_of 256 f (λ i p. omega (arith, c.shared_slice_known-1.given i))
 
   there : Stands f records k
-  there = stands f low records k c.before.requires.0 c.before.requires.1
+  there = stands f low records k c.requires.0 c.requires.1
 
-mul-four : tie.Need-overflow-mul-four
-mul-four c = omega (arith, (there c).index, (there c).short)
+overflow_mul-records : tie.Need-overflow_mul-records
+overflow_mul-records c = omega (arith, (there c).index, (there c).short)
 
-sub-four : tie.Need-overflow-sub-four
-sub-four c = (there c).index
+overflow_sub-file : tie.Need-overflow_sub-file
+overflow_sub-file c = (there c).index
 
-mul-four-2 : tie.Need-overflow-mul-four-2
-mul-four-2 c = omega (arith, (there c).index, (there c).short, c.before.requires.1)
+overflow_mul-k : tie.Need-overflow_mul-k
+overflow_mul-k c = omega (arith, (there c).index, (there c).short, c.requires.1)
 
-add-four : tie.Need-overflow-add-four
-add-four c = omega (arith, (there c).index, (there c).short, c.before.requires.1)
+overflow_add-file : tie.Need-overflow_add-file
+overflow_add-file c = omega (arith, (there c).index, (there c).short, c.requires.1)
 
-four-requires : tie.Need-four-requires
-four-requires c κs = omega (arith, (there c).index, (there c).short, c.before.requires.1)
+four-place-requires : tie.Need-four-place-requires
+four-place-requires c κs = omega (arith, (there c).index, (there c).short, c.requires.1)
 
-entry-at-requires : tie.Need-entry-at-requires
-entry-at-requires c κs =
+entry_at-requires : tie.Need-entry_at-requires
+entry_at-requires c κs =
     let s = c.before in
-    (entry_room (f s) (low s) (records s) (k s) (there s) c.four.result c.four.ensures.0, (there s).short)
+    (entry_room (f s) (low s) (records s) (k s) (there s) c.four-place.result c.four-place.ensures.0, (there s).short)
 
 returns : tie.Need-returns
 returns c =
     let p = c.before in
     let s = p.before in
     let e = c.entry_at.result in
-    let is = entry_read (f s) (low s) (records s) (k s) (there s) p.four.result p.four.ensures.0 e c.entry_at.ensures.0 in
+    let is = entry_read (f s) (low s) (records s) (k s) (there s) p.four-place.result p.four-place.ensures.0 e c.entry_at.ensures.0 in
     (is, header_named (f s) (low s) (records s) (k s) (there s) e is)
 
 pub entry_of_spec : {M : Type 1} → statement M
-entry_of_spec = tie.close (tie.spec mul-four sub-four mul-four-2 add-four four-requires entry-at-requires returns)
+entry_of_spec = tie.close (tie.spec
+    overflow_mul-records
+    overflow_sub-file
+    overflow_mul-k
+    overflow_add-file
+    four-place-requires
+    entry_at-requires
+    returns)

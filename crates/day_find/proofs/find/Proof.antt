@@ -6,11 +6,13 @@ use Rattle.day_find.proofs.Finding.{first_header}
 use Rattle.day_find.proofs.find.Statement.{statement}
 use Rattle.day_find.proofs.find.Tie as tie
 
-find-from-requires : tie.Need-find-from-requires
-find-from-requires c κs = let s = c.before in (s.requires.0, s.requires.1, first_header (read_day s.args.file.now), omega arith)
+find_from-requires : tie.Need-find_from-requires
+find_from-requires c κs = let s = c.before in (s.requires.0, s.requires.1, first_header (read_day s.args.file.now), omega arith)
 
 returns : tie.Need-returns
 returns c = search rules
 
 pub find_spec : {M : Type 1} → statement M
-find_spec = tie.close (tie.spec find-from-requires returns)
+find_spec = tie.close (tie.spec
+    find_from-requires
+    returns)

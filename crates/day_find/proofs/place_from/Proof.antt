@@ -12,55 +12,55 @@ use Rattle.day_find.proofs.Finding.{passed}
 use Rattle.day_find.proofs.place_from.Statement.{statement}
 use Rattle.day_find.proofs.place_from.Tie as tie
 
-abbrev invariant-loop : tie.invariant-loop
-invariant-loop file from at number place₀ i₀ place i = (i ≤ number) × (place ≡ length_place (read_day file) i)
+abbrev invariant-loop-i : tie.invariant-loop-i
+invariant-loop-i file from at number place₀ i₀ place i = (i ≤ number) × (place ≡ length_place (read_day file) i)
 
-abbrev decreases-loop : tie.decreases-loop
-decreases-loop file from at number place₀ i₀ place i = number - i
+abbrev decreases-loop-i : tie.decreases-loop-i
+decreases-loop-i file from at number place₀ i₀ place i = number - i
 
 -- the header that is next lies within the file, and the one after it follows
-module _ (c : tie.In-loop invariant-loop decreases-loop) where
-  abbrev known : tie.After-shared-slice-known invariant-loop decreases-loop
+module _ (c : tie.In-loop-i invariant-loop-i decreases-loop-i) where
+  abbrev known : tie.After-shared_slice_known-1 invariant-loop-i decreases-loop-i
   known = c.before.before
 
   abbrev f : Bytes
-  f = known.before.args.file.now
+  f = known.args.file.now
 
   abbrev at : ℕ
-  at = c.before.loop.place
+  at = c.loop-i.place
 
   low : Below 256 f
-  low = below_of 256 f (λ i p. omega (arith, known.shared-slice-known.given i))
+  low = below_of 256 f (λ i p. omega (arith, known.shared_slice_known-1.given i))
 
-  step : (at + 2 + value (take 2 (drop at f)) ≤ length f) × (at + 2 + value (take 2 (drop at f)) ≡ length_place (read_day f) (c.before.loop.i + 1))
-  step = passed f low c.before.loop.i at (omega (arith, known.before.pre.2)) c.before.loop.invariant.1
+  step : (at + 2 + value (take 2 (drop at f)) ≤ length f) × (at + 2 + value (take 2 (drop at f)) ≡ length_place (read_day f) (c.loop-i.i + 1))
+  step = passed f low c.loop-i.i at (omega (arith, known.requires.2)) c.loop-i.invariant.1
 
-loop-holds : tie.Need-loop-init invariant-loop decreases-loop
-loop-holds c = (c.before.requires.1, c.before.requires.0)
+loop-i-init : tie.Need-loop-i-init invariant-loop-i decreases-loop-i
+loop-i-init c = (c.requires.1, c.requires.0)
 
-add-place : tie.Need-overflow-add-place invariant-loop decreases-loop
-add-place c = omega (arith, (step c).0)
+overflow_add-place : tie.Need-overflow_add-place invariant-loop-i decreases-loop-i
+overflow_add-place c = omega (arith, (step c).0)
 
-two-requires : tie.Need-two-requires invariant-loop decreases-loop
+two-requires : tie.Need-two-requires invariant-loop-i decreases-loop-i
 two-requires c κs = omega (arith, (step c).0)
 
-add-place-2 : tie.Need-overflow-add-place-2 invariant-loop decreases-loop
-add-place-2 c = omega (arith, (step c.before).0, c.two.ensures.0)
+overflow_add-place-in-loop-i : tie.Need-overflow_add-place-in-loop-i invariant-loop-i decreases-loop-i
+overflow_add-place-in-loop-i c = omega (arith, (step c.before).0, c.two.ensures.0)
 
-add-i : tie.Need-overflow-add-i invariant-loop decreases-loop
-add-i c = search rules
+overflow_add-i : tie.Need-overflow_add-i invariant-loop-i decreases-loop-i
+overflow_add-i c = search rules
 
-loop-less : tie.Need-loop-smaller invariant-loop decreases-loop
-loop-less c = search rules
+loop-i-smaller : tie.Need-loop-i-smaller invariant-loop-i decreases-loop-i
+loop-i-smaller c = search rules
 
-loop-again : tie.Need-loop-preserved invariant-loop decreases-loop
-loop-again c = (omega arith, ap (λ (n : ℕ). at c.before + 2 + n) c.two.ensures.0 ∙ (step c.before).1)
+loop-i-preserved : tie.Need-loop-i-preserved invariant-loop-i decreases-loop-i
+loop-i-preserved c = (omega arith, ap (λ (n : ℕ). at c.before + 2 + n) c.two.ensures.0 ∙ (step c.before).1)
 
-returns : tie.Need-returns invariant-loop decreases-loop
+returns : tie.Need-returns invariant-loop-i decreases-loop-i
 returns c =
     let last-test = c.before in
-    let l = last-test.loop in
-    let a = last-test.before.before.args in
+    let l = last-test.loop-i in
+    let a = last-test.args in
     let last : l.i ≡ a.number = omega arith in
     l.invariant.1 ∙ ap (length_place (read_day a.file.now)) last
 
@@ -68,13 +68,13 @@ pub place_from_spec : {M : Type 1} → statement M
 place_from_spec =
     tie.close
     (tie.spec
-    invariant-loop
-    decreases-loop
-    loop-holds
-    add-place
+    invariant-loop-i
+    decreases-loop-i
+    loop-i-init
+    overflow_add-place
     two-requires
-    add-place-2
-    add-i
-    loop-less
-    loop-again
+    overflow_add-place-in-loop-i
+    overflow_add-i
+    loop-i-smaller
+    loop-i-preserved
     returns)

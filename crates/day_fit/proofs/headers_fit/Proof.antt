@@ -15,18 +15,18 @@ use Rattle.day_fit.proofs.Walks.{headers_from, header_turn, header_past, header_
 use Rattle.day_fit.proofs.headers_fit.Statement.{statement}
 use Rattle.day_fit.proofs.headers_fit.Tie as tie
 
-abbrev invariant-loop : tie.invariant-loop
-invariant-loop lengths headers at₀ i₀ at i = (at ≤ length headers) × (i ≤ length lengths) × (present (headers_of lengths headers) ≡ present (headers_from lengths headers i at))
+abbrev invariant-loop-i : tie.invariant-loop-i
+invariant-loop-i lengths headers at₀ i₀ at i = (at ≤ length headers) × (i ≤ length lengths) × (present (headers_of lengths headers) ≡ present (headers_from lengths headers i at))
 
-abbrev decreases-loop : tie.decreases-loop
-decreases-loop lengths headers at₀ i₀ at i = length lengths - i
+abbrev decreases-loop-i : tie.decreases-loop-i
+decreases-loop-i lengths headers at₀ i₀ at i = length lengths - i
 
-abbrev start : tie.At-loop invariant-loop decreases-loop → tie.Start invariant-loop decreases-loop
+abbrev start : tie.At-loop-i invariant-loop-i decreases-loop-i → tie.Start invariant-loop-i decreases-loop-i
 start c = c.before.before.before
 
 -- the header that is next
-module _ (c : tie.Else1 invariant-loop decreases-loop) where
-  abbrev looped : tie.At-loop invariant-loop decreases-loop
+module _ (c : tie.Else-headers-at invariant-loop-i decreases-loop-i) where
+  abbrev looped : tie.At-loop-i invariant-loop-i decreases-loop-i
   looped = c.before.before.before
 
   abbrev lengths : List ℕ
@@ -36,10 +36,10 @@ module _ (c : tie.Else1 invariant-loop decreases-loop) where
   headers = (start looped).args.headers.now
 
   abbrev at : ℕ
-  at = looped.loop.at
+  at = looped.loop-i.at
 
   abbrev i : ℕ
-  i = looped.loop.i
+  i = looped.loop-i.i
 
   part_is : take (at + get_or lengths i 0 - at) (drop at headers) ≡ take (get_or lengths i 0) (drop at headers)
   part_is = let own : at + get_or lengths i 0 - at ≡ get_or lengths i 0 = omega arith in ap (λ (n : ℕ). take n (drop at headers)) own
@@ -57,97 +57,97 @@ ends a lengths headers i p q = go (eqb a (length headers)) refl
         lt_of : (m k : ℕ) → m ≤ k → (m ≡ k → ⊥) → m < k
         lt_of m k p n = omega (arith, n)
 
-loop-holds : tie.Need-loop-init invariant-loop decreases-loop
-loop-holds c = (omega arith, omega arith, refl)
+loop-i-init : tie.Need-loop-i-init invariant-loop-i decreases-loop-i
+loop-i-init c = (omega arith, omega arith, refl)
 
-mul-n : tie.Need-overflow-mul-n invariant-loop decreases-loop
-mul-n c = search rules
+offset_bounds-lengths-i : tie.Need-offset_bounds-lengths-i invariant-loop-i decreases-loop-i
+offset_bounds-lengths-i c = search rules
 
-shared-slice-read-n : tie.Need-shared-slice-read-n invariant-loop decreases-loop
-shared-slice-read-n c = search rules
+bounds-lengths-i : tie.Need-bounds-lengths-i invariant-loop-i decreases-loop-i
+bounds-lengths-i c = search rules
 
-sub-if1 : tie.Need-overflow-sub-if1 invariant-loop decreases-loop
-sub-if1 c = search rules
+overflow_sub-headers : tie.Need-overflow_sub-headers invariant-loop-i decreases-loop-i
+overflow_sub-headers c = search rules
 
-returns : tie.Need-returns invariant-loop decreases-loop
-returns c =
+returns-then-headers-at : tie.Need-returns-then-headers-at invariant-loop-i decreases-loop-i
+returns-then-headers-at c =
     let at_loop = c.before.before.before in
-    let l = at_loop.loop in
+    let l = at_loop.loop-i in
     let a = (start at_loop).args in
-    sym (l.invariant.2 ∙ ap present (header_past a.lengths.now a.headers.now l.i l.at (omega arith) c.if1.true))
+    sym (l.invariant.2 ∙ ap present (header_past a.lengths.now a.headers.now l.i l.at (omega arith) c.if-headers-at.true))
 
-add-end : tie.Need-overflow-add-end invariant-loop decreases-loop
-add-end c = search rules
+overflow_add-end : tie.Need-overflow_add-end invariant-loop-i decreases-loop-i
+overflow_add-end c = search rules
 
-sub_read : tie.Need-overflow-sub-read invariant-loop decreases-loop
-sub_read c = search rules
+slice_bounds-read-count : tie.Need-slice_bounds-read-count invariant-loop-i decreases-loop-i
+slice_bounds-read-count c = search rules
 
-part-read-start : tie.Need-slice-bounds-read-start invariant-loop decreases-loop
-part-read-start c = search rules
+slice_bounds-read-start : tie.Need-slice_bounds-read-start invariant-loop-i decreases-loop-i
+slice_bounds-read-start c = search rules
 
-part-read-end : tie.Need-slice-bounds-read-end invariant-loop decreases-loop
-part-read-end c = search rules
+slice_bounds-read-end : tie.Need-slice_bounds-read-end invariant-loop-i decreases-loop-i
+slice_bounds-read-end c = search rules
 
-read-requires : tie.Need-read-requires invariant-loop decreases-loop
+read-requires : tie.Need-read-requires invariant-loop-i decreases-loop-i
 read-requires c κs = search rules
 
-enum_told : tie.Need-enum-told invariant-loop decreases-loop
-enum_told c = search rules
+enum_told-1 : tie.Need-enum_told-1 invariant-loop-i decreases-loop-i
+enum_told-1 c = search rules
 
-enum-told-2 : tie.Need-enum-told-2 invariant-loop decreases-loop
-enum-told-2 c = search rules
+enum_told-in_default : tie.Need-enum_told-in_default invariant-loop-i decreases-loop-i
+enum_told-in_default c = search rules
 
-returns-2 : tie.Need-returns-2 invariant-loop decreases-loop
-returns-2 c =
-    let r = c.before.before in
+returns-in_default : tie.Need-returns-in_default invariant-loop-i decreases-loop-i
+returns-in_default c =
+    let r = c.before in
     let e = r.before.before in
-    let unfit = ap header_fits (sym (part_is e)) ∙ bad_fits (take (at e + get_or (lengths e) (i e) 0 - at e) (drop (at e) (headers e))) _ (sym c.enum-told2.given.1 ∙ r.read.ensures) in
-    sym ((looped e).loop.invariant.2 ∙ ap present (header_unfit (lengths e) (headers e) (i e) (at e) (omega arith) unfit))
+    let unfit = ap header_fits (sym (part_is e)) ∙ bad_fits (take (at e + get_or (lengths e) (i e) 0 - at e) (drop (at e) (headers e))) _ (sym c.in_default.is ∙ r.read.ensures) in
+    sym ((looped e).loop-i.invariant.2 ∙ ap present (header_unfit (lengths e) (headers e) (i e) (at e) (omega arith) unfit))
 
-add-i : tie.Need-overflow-add-i invariant-loop decreases-loop
-add-i c = search rules
+overflow_add-i : tie.Need-overflow_add-i invariant-loop-i decreases-loop-i
+overflow_add-i c = search rules
 
-loop-less : tie.Need-loop-smaller invariant-loop decreases-loop
-loop-less c = search rules
+loop-i-smaller : tie.Need-loop-i-smaller invariant-loop-i decreases-loop-i
+loop-i-smaller c = search rules
 
-loop-again : tie.Need-loop-preserved invariant-loop decreases-loop
-loop-again c =
-    let r = c.before.before in
+loop-i-preserved : tie.Need-loop-i-preserved invariant-loop-i decreases-loop-i
+loop-i-preserved c =
+    let r = c.before in
     let e = r.before.before in
-    let fit = ap header_fits (sym (part_is e)) ∙ reads_fits (take (at e + get_or (lengths e) (i e) 0 - at e) (drop (at e) (headers e))) _ (sym c.enum_told.given.1 ∙ r.read.ensures) in (
+    let fit = ap header_fits (sym (part_is e)) ∙ reads_fits (take (at e + get_or (lengths e) (i e) 0 - at e) (drop (at e) (headers e))) _ (sym c.in-Strings.is ∙ r.read.ensures) in (
       omega arith,
       omega arith,
-      (looped e).loop.invariant.2
+      (looped e).loop-i.invariant.2
           ∙ ap present (header_turn (lengths e) (headers e) (i e) (at e) (omega arith) (omega arith) fit)
           ∙ present_front (take (get_or (lengths e) (i e) 0) (drop (at e) (headers e))) (headers_from (lengths e) (headers e) (i e + 1) (at e + get_or (lengths e) (i e) 0)),
     )
 
-returns-3 : tie.Need-returns-3 invariant-loop decreases-loop
-returns-3 c =
-    let l = c.before.loop in
+returns : tie.Need-returns invariant-loop-i decreases-loop-i
+returns c =
+    let l = c.loop-i in
     let a = (start c.before).args in
-    ends l.at a.lengths.now a.headers.now l.i l.invariant.0 c.loop-test.false ∙ sym l.invariant.2
+    ends l.at a.lengths.now a.headers.now l.i l.invariant.0 c.loop-i-test.false ∙ sym l.invariant.2
 
 pub headers_fit_spec : {M : Type 1} → statement M
 headers_fit_spec =
     tie.close
     (tie.spec
-    invariant-loop
-    decreases-loop
-    loop-holds
-    mul-n
-    shared-slice-read-n
-    sub-if1
-    returns
-    add-end
-    sub_read
-    part-read-start
-    part-read-end
+    invariant-loop-i
+    decreases-loop-i
+    loop-i-init
+    offset_bounds-lengths-i
+    bounds-lengths-i
+    overflow_sub-headers
+    returns-then-headers-at
+    overflow_add-end
+    slice_bounds-read-count
+    slice_bounds-read-start
+    slice_bounds-read-end
     read-requires
-    enum_told
-    enum-told-2
-    returns-2
-    add-i
-    loop-less
-    loop-again
-    returns-3)
+    enum_told-1
+    enum_told-in_default
+    returns-in_default
+    overflow_add-i
+    loop-i-smaller
+    loop-i-preserved
+    returns)

@@ -15,13 +15,13 @@ use Rattle.day_fit.proofs.Walks.{records_from, record_at, record_turn, record_pa
 use Rattle.day_fit.proofs.records_fit.Statement.{statement}
 use Rattle.day_fit.proofs.records_fit.Tie as tie
 
-abbrev invariant-loop : tie.invariant-loop
-invariant-loop headers numbers stretches sizes sealed at₀ i₀ at i =
+abbrev invariant-loop-i : tie.invariant-loop-i
+invariant-loop-i headers numbers stretches sizes sealed at₀ i₀ at i =
     (at ≤ length sealed) × (i ≤ length sizes)
     × (records_right headers numbers stretches sizes sealed ≡ present (records_from headers numbers stretches sizes sealed i at))
 
-abbrev decreases-loop : tie.decreases-loop
-decreases-loop headers numbers stretches sizes sealed at₀ i₀ at i = length sizes - i
+abbrev decreases-loop-i : tie.decreases-loop-i
+decreases-loop-i headers numbers stretches sizes sealed at₀ i₀ at i = length sizes - i
 
 -- ---- The lists' lengths
 
@@ -49,130 +49,130 @@ module _ (headers : ℕ) (hs ts ns : List ℕ) (X : Bytes) where
 
 -- ---- The places
 
-abbrev start : tie.At-loop invariant-loop decreases-loop → tie.Start invariant-loop decreases-loop
+abbrev start : tie.At-loop-i invariant-loop-i decreases-loop-i → tie.Start invariant-loop-i decreases-loop-i
 start c = c.before.before.before
 
 -- a record is read
-abbrev looped : tie.After-shared-slice-known invariant-loop decreases-loop → tie.At-loop invariant-loop decreases-loop
+abbrev looped : tie.After-shared_slice_known-1 invariant-loop-i decreases-loop-i → tie.At-loop-i invariant-loop-i decreases-loop-i
 looped c = c.before.before
 
-returns : tie.Need-returns invariant-loop decreases-loop
-returns c =
-    let a = c.before.args in
-    sym (first_differs a.headers a.numbers.now a.stretches.now a.sizes.now a.sealed.now c.if1.true)
+returns-then-numbers-sizes : tie.Need-returns-then-numbers-sizes invariant-loop-i decreases-loop-i
+returns-then-numbers-sizes c =
+    let a = c.args in
+    sym (first_differs a.headers a.numbers.now a.stretches.now a.sizes.now a.sealed.now c.if-numbers-sizes.true)
 
-returns-2 : tie.Need-returns-2 invariant-loop decreases-loop
-returns-2 c =
-    let a = c.before.before.args in
-    sym (second_differs a.headers a.numbers.now a.stretches.now a.sizes.now a.sealed.now c.before.if1.false c.if2.true)
+returns-then-stretches-sizes : tie.Need-returns-then-stretches-sizes invariant-loop-i decreases-loop-i
+returns-then-stretches-sizes c =
+    let a = c.args in
+    sym (second_differs a.headers a.numbers.now a.stretches.now a.sizes.now a.sealed.now c.if-numbers-sizes.false c.if-stretches-sizes.true)
 
-loop-holds : tie.Need-loop-init invariant-loop decreases-loop
-loop-holds c =
-    let a = c.before.before.args in
-    (omega arith, omega arith, all_same a.headers a.numbers.now a.stretches.now a.sizes.now a.sealed.now c.before.if1.false c.if2.false)
+loop-i-init : tie.Need-loop-i-init invariant-loop-i decreases-loop-i
+loop-i-init c =
+    let a = c.args in
+    (omega arith, omega arith, all_same a.headers a.numbers.now a.stretches.now a.sizes.now a.sealed.now c.if-numbers-sizes.false c.if-stretches-sizes.false)
 
-mul-n : tie.Need-overflow-mul-n invariant-loop decreases-loop
-mul-n c = search rules
+offset_bounds-sizes-i : tie.Need-offset_bounds-sizes-i invariant-loop-i decreases-loop-i
+offset_bounds-sizes-i c = search rules
 
-shared-slice-read-n : tie.Need-shared-slice-read-n invariant-loop decreases-loop
-shared-slice-read-n c = search rules
+bounds-sizes-i : tie.Need-bounds-sizes-i invariant-loop-i decreases-loop-i
+bounds-sizes-i c = search rules
 
-sub-if3 : tie.Need-overflow-sub-if3 invariant-loop decreases-loop
-sub-if3 c = search rules
+overflow_sub-sealed : tie.Need-overflow_sub-sealed invariant-loop-i decreases-loop-i
+overflow_sub-sealed c = search rules
 
-returns-3 : tie.Need-returns-3 invariant-loop decreases-loop
-returns-3 c =
-    let l = (looped c.before).loop in
+returns-then-sealed-at : tie.Need-returns-then-sealed-at invariant-loop-i decreases-loop-i
+returns-then-sealed-at c =
+    let l = (looped c.before).loop-i in
     let a = (start (looped c.before)).args in
-    sym (l.inv.2 ∙ ap present (record_past a.headers a.numbers.now a.stretches.now a.sizes.now a.sealed.now l.i l.at (omega arith) c.if3.true))
+    sym (l.invariant.2 ∙ ap present (record_past a.headers a.numbers.now a.stretches.now a.sizes.now a.sealed.now l.i l.at (omega arith) c.if-sealed-at.true))
 
-mul-header : tie.Need-overflow-mul-header invariant-loop decreases-loop
-mul-header c = search rules
+offset_bounds-numbers-i : tie.Need-offset_bounds-numbers-i invariant-loop-i decreases-loop-i
+offset_bounds-numbers-i c = search rules
 
-shared-slice-read-header : tie.Need-shared-slice-read-header invariant-loop decreases-loop
-shared-slice-read-header c = search rules
+bounds-numbers-i : tie.Need-bounds-numbers-i invariant-loop-i decreases-loop-i
+bounds-numbers-i c = search rules
 
-returns-4 : tie.Need-returns-4 invariant-loop decreases-loop
-returns-4 c =
+returns-then-header-gt65535 : tie.Need-returns-then-header-gt65535 invariant-loop-i decreases-loop-i
+returns-then-header-gt65535 c =
     let at_loop = looped c.before.before.before in
-    let l = at_loop.loop in
+    let l = at_loop.loop-i in
     let a = (start at_loop).args in
-    sym (l.inv.2 ∙ ap present (record_numbered a.headers a.numbers.now a.stretches.now a.sizes.now a.sealed.now l.i l.at (omega arith) c.if4.true))
+    sym (l.invariant.2 ∙ ap present (record_numbered a.headers a.numbers.now a.stretches.now a.sizes.now a.sealed.now l.i l.at (omega arith) c.if-header-gt65535.true))
 
-returns-5 : tie.Need-returns-5 invariant-loop decreases-loop
-returns-5 c =
+returns-then-headers-header : tie.Need-returns-then-headers-header invariant-loop-i decreases-loop-i
+returns-then-headers-header c =
     let at_loop = looped c.before.before.before.before in
-    let l = at_loop.loop in
+    let l = at_loop.loop-i in
     let a = (start at_loop).args in
-    sym (l.inv.2 ∙ ap present (record_unnamed a.headers a.numbers.now a.stretches.now a.sizes.now a.sealed.now l.i l.at (omega arith) c.if5.true))
+    sym (l.invariant.2 ∙ ap present (record_unnamed a.headers a.numbers.now a.stretches.now a.sizes.now a.sealed.now l.i l.at (omega arith) c.if-headers-header.true))
 
-mul-if6 : tie.Need-overflow-mul-if6 invariant-loop decreases-loop
-mul-if6 c = search rules
+offset_bounds-stretches-i : tie.Need-offset_bounds-stretches-i invariant-loop-i decreases-loop-i
+offset_bounds-stretches-i c = search rules
 
-shared-slice-read-if6 : tie.Need-shared-slice-read-if6 invariant-loop decreases-loop
-shared-slice-read-if6 c = search rules
+bounds-stretches-i : tie.Need-bounds-stretches-i invariant-loop-i decreases-loop-i
+bounds-stretches-i c = search rules
 
-returns-6 : tie.Need-returns-6 invariant-loop decreases-loop
-returns-6 c =
+returns-then-stretches-i-gt64 : tie.Need-returns-then-stretches-i-gt64 invariant-loop-i decreases-loop-i
+returns-then-stretches-i-gt64 c =
     let at_loop = looped c.before.before.before.before.before.before in
-    let l = at_loop.loop in
+    let l = at_loop.loop-i in
     let a = (start at_loop).args in
-    sym (l.inv.2 ∙ ap present (record_stretched a.headers a.numbers.now a.stretches.now a.sizes.now a.sealed.now l.i l.at (omega arith) c.if6.true))
+    sym (l.invariant.2 ∙ ap present (record_stretched a.headers a.numbers.now a.stretches.now a.sizes.now a.sealed.now l.i l.at (omega arith) c.if-stretches-i-gt64.true))
 
-add_at : tie.Need-overflow-add-at invariant-loop decreases-loop
-add_at c = search rules
+overflow_add-at : tie.Need-overflow_add-at invariant-loop-i decreases-loop-i
+overflow_add-at c = search rules
 
-add-i : tie.Need-overflow-add-i invariant-loop decreases-loop
-add-i c = search rules
+overflow_add-i : tie.Need-overflow_add-i invariant-loop-i decreases-loop-i
+overflow_add-i c = search rules
 
-loop-less : tie.Need-loop-smaller invariant-loop decreases-loop
-loop-less c = search rules
+loop-i-smaller : tie.Need-loop-i-smaller invariant-loop-i decreases-loop-i
+loop-i-smaller c = search rules
 
-loop-again : tie.Need-loop-preserved invariant-loop decreases-loop
-loop-again c =
+loop-i-preserved : tie.Need-loop-i-preserved invariant-loop-i decreases-loop-i
+loop-i-preserved c =
     let fifth = c.before.before in
     let fourth = fifth.before in
     let at_loop = looped fourth.before.before.before in
-    let l = at_loop.loop in
+    let l = at_loop.loop-i in
     let a = (start at_loop).args in
     let n = get_or a.sizes.now l.i 0 in (
       omega arith,
       omega arith,
-      l.inv.2
+      l.invariant.2
           ∙ ap present
           (record_turn a.headers a.numbers.now a.stretches.now a.sizes.now a.sealed.now l.i l.at (omega arith) (omega arith)
-          fourth.if4.false fifth.if5.false c.if6.false)
+          fourth.if-header-gt65535.false fifth.if-headers-header.false c.if-stretches-i-gt64.false)
           ∙ record_front (record_at a.headers a.numbers.now a.stretches.now a.sizes.now a.sealed.now l.i l.at) (records_from a.headers a.numbers.now a.stretches.now a.sizes.now a.sealed.now (l.i + 1) (l.at + n)),
     )
 
-returns-7 : tie.Need-returns-7 invariant-loop decreases-loop
-returns-7 c =
-    let l = c.before.loop in
+returns : tie.Need-returns invariant-loop-i decreases-loop-i
+returns c =
+    let l = c.loop-i in
     let a = (start c.before).args in
-    ends a.headers a.numbers.now a.stretches.now a.sizes.now a.sealed.now l.i l.at l.invariant.0 c.loop-test.false ∙ sym l.invariant.2
+    ends a.headers a.numbers.now a.stretches.now a.sizes.now a.sealed.now l.i l.at l.invariant.0 c.loop-i-test.false ∙ sym l.invariant.2
 
 pub records_fit_spec : {M : Type 1} → statement M
 records_fit_spec =
     tie.close
     (tie.spec
-    invariant-loop
-    decreases-loop
-    returns
-    returns-2
-    loop-holds
-    mul-n
-    shared-slice-read-n
-    sub-if3
-    returns-3
-    mul-header
-    shared-slice-read-header
-    returns-4
-    returns-5
-    mul-if6
-    shared-slice-read-if6
-    returns-6
-    add_at
-    add-i
-    loop-less
-    loop-again
-    returns-7)
+    invariant-loop-i
+    decreases-loop-i
+    returns-then-numbers-sizes
+    returns-then-stretches-sizes
+    loop-i-init
+    offset_bounds-sizes-i
+    bounds-sizes-i
+    overflow_sub-sealed
+    returns-then-sealed-at
+    offset_bounds-numbers-i
+    bounds-numbers-i
+    returns-then-header-gt65535
+    returns-then-headers-header
+    offset_bounds-stretches-i
+    bounds-stretches-i
+    returns-then-stretches-i-gt64
+    overflow_add-at
+    overflow_add-i
+    loop-i-smaller
+    loop-i-preserved
+    returns)

@@ -19,7 +19,7 @@ use Rattle.day_grow.proofs.put_grown.Statement.{statement}
 use Rattle.day_grow.proofs.put_grown.Tie as tie
 
 -- the buffer as it was lent
-module _ (c : tie.After-shared-slice-known2) where
+module _ (c : tie.After-shared_slice_known-2-1) where
   abbrev start : tie.Start
   start = c.before.before.before
 
@@ -44,7 +44,7 @@ module _ (c : tie.After-shared-slice-known2) where
   abbrev l : Lent
   l = record {
     buffer = B;
-    low = below_of 256 B (λ i p. omega (arith, c.before.before.slice-known.given i));
+    low = below_of 256 B (λ i p. omega (arith, c.slice_known-1.given i));
     size = size;
     headers = start.args.headers;
     records = start.args.records;
@@ -53,25 +53,25 @@ module _ (c : tie.After-shared-slice-known2) where
     header = header;
     stretch = stretch;
     sealed = sealed;
-    ready = start.pre;
+    ready = start.requires;
   }
 
-  heads : length (write_headers start.pre.day.headers) + 4 ≡ start.args.first
+  heads : length (write_headers start.requires.day.headers) + 4 ≡ start.args.first
   heads = heads_long l
 
-  whole : size ≡ start.args.first + length (write_records start.pre.day.records) + (4 + 4 * start.args.records)
+  whole : size ≡ start.args.first + length (write_records start.requires.day.records) + (4 + 4 * start.args.records)
   whole = size_is l
 
   small : stretch ≤ 64
-  small = (fits_names number header stretch start.args.headers start.pre.fit).1
+  small = (fits_names number header stretch start.args.headers start.requires.fit).1
 
   -- the file that the contract names
-  file : write_day (grown number header stretch sealed start.pre.day) ≡ grown_file (read_day (take size B)) number header stretch sealed
-  file = sym (ap (λ (o : Option Day). grown_file o number header stretch sealed) start.pre.reads)
+  file : write_day (grown number header stretch sealed start.requires.day) ≡ grown_file (read_day (take size B)) number header stretch sealed
+  file = sym (ap (λ (o : Option Day). grown_file o number header stretch sealed) start.requires.reads)
 
 -- a new header is brought
-module _ (c : tie.Else1) where
-  abbrev lent : tie.After-shared-slice-known2
+module _ (c : tie.Else-number-headers) where
+  abbrev lent : tie.After-shared_slice_known-2-1
   lent = c.before
 
   abbrev a : Lent
@@ -81,151 +81,151 @@ module _ (c : tie.Else1) where
   more = 2 + length a.header
 
   room : last_of a + more + 11 + length a.sealed + 4 + 4 * a.records ≤ length a.buffer
-  room = omega (arith, next_long a c.if1.false, (start lent).pre.room, whole lent)
+  room = omega (arith, next_long a c.if-number-headers.false, (start lent).requires.room, whole lent)
 
-sub-end : tie.Need-overflow-sub-end
-sub-end c = omega (arith, heads c)
+overflow_sub-end : tie.Need-overflow_sub-end
+overflow_sub-end c = omega (arith, heads c)
 
-sub-last : tie.Need-overflow-sub-last
-sub-last c = omega (arith, whole c)
+overflow_sub-last : tie.Need-overflow_sub-last
+overflow_sub-last c = omega (arith, whole c)
 
-mul-last : tie.Need-overflow-mul-last
-mul-last c = omega (arith, whole c)
+overflow_mul-last : tie.Need-overflow_mul-last
+overflow_mul-last c = omega (arith, whole c)
 
-sub-last-2 : tie.Need-overflow-sub-last-2
-sub-last-2 c = omega (arith, whole c)
+overflow_sub-last-2 : tie.Need-overflow_sub-last-2
+overflow_sub-last-2 c = omega (arith, whole c)
 
-put-last-requires : tie.Need-put-last-requires
-put-last-requires c κs =
+put_last-requires : tie.Need-put_last-requires
+put_last-requires c κs =
     let t = c.before in
     let k = t.before in (
-      there_rows (l k) t.if1.true,
+      there_rows (l k) t.if-number-headers.true,
       omega (arith, heads k),
-      there_short (l k) t.if1.true,
-      there_room (l k) t.if1.true,
+      there_short (l k) t.if-number-headers.true,
+      there_room (l k) t.if-number-headers.true,
       small k,
     )
 
-same_length : tie.Need-same-length
-same_length c = search rules
+shape_of-out-then-number-headers : tie.Need-shape_of-out-then-number-headers
+shape_of-out-then-number-headers c = search rules
 
-returns : tie.Need-returns
-returns c =
+returns-then-number-headers : tie.Need-returns-then-number-headers
+returns-then-number-headers c =
     let p = c.before.before in
     let t = p.before.before in
     let k = t.before in
-    there_closes (l k) t.if1.true p.put_last.new.0 p.put_last.ensures
+    there_closes (l k) t.if-number-headers.true p.put_last.new.out p.put_last.ensures
     ∙ ap (λ (w : Bytes). placed 0 w (B k)) (file k)
 
 -- the three steps of it
-abbrev moved_from : tie.After-move-right → tie.Else1
+abbrev moved_from : tie.After-move_right → tie.Else-number-headers
 moved_from c = c.before.before
 
-abbrev headed_from : tie.After-put → tie.After-move-right
+abbrev headed_from : tie.After-put → tie.After-move_right
 headed_from c = c.before.before.before.before
 
-module _ (c : tie.After-put-four) where
+module _ (c : tie.After-put_four) where
   abbrev header_put : tie.After-put
   header_put = c.before.before.before.before
 
-  abbrev move_made : tie.After-move-right
+  abbrev move_made : tie.After-move_right
   move_made = headed_from header_put
 
-  abbrev brought : tie.Else1
+  abbrev brought : tie.Else-number-headers
   brought = moved_from move_made
 
   abbrev put : Brought (a brought)
   put = record {
-    moved = move_made.move-right.last.0;
-    moved_is = move_made.move-right.ensures;
-    headed = header_put.put.last.0;
+    moved = move_made.move_right.new.out;
+    moved_is = move_made.move_right.ensures;
+    headed = header_put.put.new.out;
     headed_is = header_put.put.ensures.1;
-    out = c.put_four.new.0;
+    out = c.put_four.new.out;
     out_is = c.put_four.ensures;
-    kept = c.put_four.auto.0 ∙ header_put.put.kept.0 ∙ move_made.move-right.kept.0;
+    kept = c.put_four.auto.out ∙ header_put.put.auto.out ∙ move_made.move_right.auto.out;
   }
 
-add-more : tie.Need-overflow-add-more
-add-more c = search rules
+overflow_add-more : tie.Need-overflow_add-more
+overflow_add-more c = search rules
 
-add-move-right : tie.Need-overflow-add-move-right
-add-move-right c = let e = c.before in omega (arith, room e, heads (lent e), whole (lent e))
+overflow_add-end : tie.Need-overflow_add-end
+overflow_add-end c = let e = c.before in omega (arith, room e, heads (lent e), whole (lent e))
 
-sub-move-right : tie.Need-overflow-sub-move-right
-sub-move-right c = let k = c.before.before in omega (arith, heads k, whole k)
+overflow_sub-last-3 : tie.Need-overflow_sub-last-3
+overflow_sub-last-3 c = let k = c.before.before in omega (arith, heads k, whole k)
 
-move-right-requires : tie.Need-move-right-requires
-move-right-requires c κs = let e = c.before in (omega arith, omega (arith, room e, heads (lent e), whole (lent e)))
+move_right-requires : tie.Need-move_right-requires
+move_right-requires c κs = let e = c.before in (omega arith, omega (arith, room e, heads (lent e), whole (lent e)))
 
 put-requires : tie.Need-put-requires
 put-requires c κs =
     let m = c.before.before.before in
     let e = moved_from m in
-    omega (arith, room e, heads (lent e), whole (lent e), m.move-right.auto.0)
+    omega (arith, room e, heads (lent e), whole (lent e), m.move_right.auto.out)
 
-add-put-four : tie.Need-overflow-add-put-four
-add-put-four c =
+overflow_add-headers : tie.Need-overflow_add-headers
+overflow_add-headers c =
     let e = moved_from (headed_from c.before.before.before) in
-    let p = (start (lent e)).pre in
+    let p = (start (lent e)).requires in
     omega (arith, room e, p.headers_are, headers_few p.day.headers, first_place_lem p.day.headers, p.first_is, whole (lent e))
 
-put-four-requires : tie.Need-put-four-requires
-put-four-requires c κs =
+put_four-requires : tie.Need-put_four-requires
+put_four-requires c κs =
     let h = c.before.before.before in
     let m = headed_from h in
     let e = moved_from m in
-    omega (arith, room e, heads (lent e), whole (lent e), m.move-right.kept.0, h.put.auto.0)
+    omega (arith, room e, heads (lent e), whole (lent e), m.move_right.auto.out, h.put.auto.out)
 
-add-put-last : tie.Need-overflow-add-put-last
-add-put-last c = let b = brought c.before.before.before in omega (arith, room b, whole (lent b))
+overflow_add-first : tie.Need-overflow_add-first
+overflow_add-first c = let b = brought c.before.before.before in omega (arith, room b, whole (lent b))
 
-add-put-last-2 : tie.Need-overflow-add-put-last-2
-add-put-last-2 c = search rules
+overflow_add-last : tie.Need-overflow_add-last
+overflow_add-last c = search rules
 
-put-last-requires-2 : tie.Need-put-last-requires-2
-put-last-requires-2 c κs =
+put_last-requires-2 : tie.Need-put_last-requires-2
+put_last-requires-2 c κs =
     let n = c.before.before.before in
     let b = brought n in
     let k = lent b in (
-      next_rows (l k) b.if1.left (put n),
+      next_rows (l k) b.if-number-headers.false (put n),
       omega (arith, heads k),
-      next_short (l k) b.if1.left (put n),
-      next_room (l k) b.if1.left (put n),
+      next_short (l k) b.if-number-headers.false (put n),
+      next_room (l k) b.if-number-headers.false (put n),
       small k,
     )
 
-same-length-2 : tie.Need-same-length-2
-same-length-2 c = search rules
+shape_of-out : tie.Need-shape_of-out
+shape_of-out c = search rules
 
-returns-2 : tie.Need-returns-2
-returns-2 c =
+returns : tie.Need-returns
+returns c =
     let p = c.before.before in
     let n = p.before.before.before.before in
     let b = brought n in
     let k = lent b in
-    next_closes (l k) b.if1.left (put n) p.put-last2.new.0 p.put-last2.ensures
+    next_closes (l k) b.if-number-headers.false (put n) p.put_last-2.new.out p.put_last-2.ensures
     ∙ ap (λ (w : Bytes). placed 0 w (B k)) (file k)
 
 pub put_grown_spec : {M : Type 1} → statement M
 put_grown_spec =
     tie.close
     (tie.spec
-    sub-end
-    sub-last
-    mul-last
-    sub-last-2
-    put-last-requires
-    same_length
-    returns
-    add-more
-    add-move-right
-    sub-move-right
-    move-right-requires
+    overflow_sub-end
+    overflow_sub-last
+    overflow_mul-last
+    overflow_sub-last-2
+    put_last-requires
+    shape_of-out-then-number-headers
+    returns-then-number-headers
+    overflow_add-more
+    overflow_add-end
+    overflow_sub-last-3
+    move_right-requires
     put-requires
-    add-put-four
-    put-four-requires
-    add-put-last
-    add-put-last-2
-    put-last-requires-2
-    same-length-2
-    returns-2)
+    overflow_add-headers
+    put_four-requires
+    overflow_add-first
+    overflow_add-last
+    put_last-requires-2
+    shape_of-out
+    returns)

@@ -20,7 +20,7 @@ use Rattle.day_grow.proofs.put_last.Statement.{statement}
 use Rattle.day_grow.proofs.put_last.Tie as tie
 
 -- the record is put
-module _ (c : tie.After-put-record) where
+module _ (c : tie.After-put_record) where
   abbrev start : tie.Start
   start = c.before.before.before.before
 
@@ -37,63 +37,63 @@ module _ (c : tie.After-put-record) where
   new = record_with start.args.number start.args.stretch start.args.sealed.now
 
   abbrev out : Bytes
-  out = c.put_record.new.0
+  out = c.put_record.new.out
 
   -- where it ends
   abbrev end : ℕ
   end = at + 7 + length start.args.sealed.now
 
   f_long : length f ≡ at
-  f_long = length-take-le at B (omega (arith, start.pre.3))
+  f_long = length-take-le at B (omega (arith, start.requires.3))
 
   first_inside : start.args.first ≤ at
   first_inside =
-      let rows = start.pre.0 in
+      let rows = start.requires.0 in
       omega (arith, rows.here, ap length rows.is, length-append rows.front (write_records rows.rs), f_long)
 
   front : take end out ≡ f ++ write_record new
   front =
       ap (take end) c.put_record.ensures
-      ∙ front_put at (write_record new) B end (omega (arith, record_long new)) (omega (arith, start.pre.3))
+      ∙ front_put at (write_record new) B end (omega (arith, record_long new)) (omega (arith, start.requires.3))
 
   ends : end_of (take end out) start.args.first (start.args.records + 1) ≡ end
   ends =
       ap (λ (g : Bytes). end_of g start.args.first (start.args.records + 1)) front
-      ∙ rows_end start.pre.0 new (omega (arith, f_long, record_long new, start.pre.2))
+      ∙ rows_end start.requires.0 new (omega (arith, f_long, record_long new, start.requires.2))
       ∙ omega (arith, f_long, record_long new)
 
-put-record-requires : tie.Need-put-record-requires
-put-record-requires c κs = search rules
+put_record-requires : tie.Need-put_record-requires
+put_record-requires c κs = search rules
 
-add-put-index : tie.Need-overflow-add-put-index
-add-put-index c = search rules
+overflow_add-records : tie.Need-overflow_add-records
+overflow_add-records c = search rules
 
-add-put-index-2 : tie.Need-overflow-add-put-index-2
-add-put-index-2 c = search rules
+overflow_add-at : tie.Need-overflow_add-at
+overflow_add-at c = search rules
 
-add-put-index-3 : tie.Need-overflow-add-put-index-3
-add-put-index-3 c = search rules
+overflow_add-at-2 : tie.Need-overflow_add-at-2
+overflow_add-at-2 c = search rules
 
-put-index-requires : tie.Need-put-index-requires
-put-index-requires c κs =
+put_index-requires : tie.Need-put_index-requires
+put_index-requires c κs =
     let r = c.before.before.before in
     let s = start r in
-    (ends r, omega (arith, s.pre.3, r.put_record.auto.0), omega (arith, s.pre.2))
+    (ends r, omega (arith, s.requires.3, r.put_record.auto.out), omega (arith, s.requires.2))
 
-sub-put-four : tie.Need-overflow-sub-put-four
-sub-put-four c = search rules
+overflow_sub-first : tie.Need-overflow_sub-first
+overflow_sub-first c = search rules
 
-add-put-four : tie.Need-overflow-add-put-four
-add-put-four c = search rules
+overflow_add-records-2 : tie.Need-overflow_add-records-2
+overflow_add-records-2 c = search rules
 
-put-four-requires : tie.Need-put-four-requires
-put-four-requires c κs =
+put_four-requires : tie.Need-put_four-requires
+put_four-requires c κs =
     let x = c.before.before.before in
     let r = x.before.before.before.before in
-    omega (arith, first_inside r, (start r).requires.1, (start r).requires.3, x.put-index.auto.0, r.put_record.auto.0)
+    omega (arith, first_inside r, (start r).requires.1, (start r).requires.3, x.put_index.auto.out, r.put_record.auto.out)
 
-same_length : tie.Need-same-length
-same_length c = search rules
+shape_of-out : tie.Need-shape_of-out
+shape_of-out c = search rules
 
 returns : tie.Need-returns
 returns c =
@@ -111,21 +111,21 @@ returns c =
     (arith, length-append (digits 256 4 (a.records + 1)) (write_places ps), length_digits 256 4 (a.records + 1), places_long ps, places_count (f r ++ w) a.first (a.records + 1)) in
     n.put_four.ensures
     ∙ ap (placed (a.first - 4) (digits 256 4 (a.records + 1)))
-    (x.put-index.ensures
+    (x.put_index.ensures
     ∙ (λ i. placed (sym long i) (index (front r i)) (r.put_record.ensures i))
-    ∙ placed_then (at r) w (index (f r ++ w)) (B r) (omega (arith, long, size, s.pre.3)))
+    ∙ placed_then (at r) w (index (f r ++ w)) (B r) (omega (arith, long, size, s.requires.3)))
 
 pub put_last_spec : {M : Type 1} → statement M
 put_last_spec =
     tie.close
     (tie.spec
-    put-record-requires
-    add-put-index
-    add-put-index-2
-    add-put-index-3
-    put-index-requires
-    sub-put-four
-    add-put-four
-    put-four-requires
-    same_length
+    put_record-requires
+    overflow_add-records
+    overflow_add-at
+    overflow_add-at-2
+    put_index-requires
+    overflow_sub-first
+    overflow_add-records-2
+    put_four-requires
+    shape_of-out
     returns)

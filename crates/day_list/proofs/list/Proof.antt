@@ -16,103 +16,103 @@ abbrev start : tie.After-check → tie.Start
 start c = c.before.before.before
 
 -- the file reads
-module _ (c : tie.After-known-told) where
+module _ (c : tie.In-Day) where
   abbrev checked_file : tie.After-check
-  checked_file = c.before.before.before
+  checked_file = c.before
 
   abbrev f : Bytes
   f = (start checked_file).args.file.now
 
   abbrev headers : ℕ
-  headers = c.before.headers.given.0.0
+  headers = c.in-Day.headers
 
   abbrev records : ℕ
-  records = c.before.headers.given.0.1.0
+  records = c.in-Day.records
 
   abbrev first : ℕ
-  first = c.before.headers.given.0.1.1.0
+  first = c.in-Day.first
 
   reads : checked.Day headers records first ≡ checked_as (read_day f)
-  reads = sym c.before.headers.given.1 ∙ checked_file.check.ensures
+  reads = sym c.in-Day.is ∙ checked_file.check.ensures
 
   counts : Counted (read_day f) headers records first
   counts = counted (read_day f) headers records first reads
 
   low : Below 256 f
-  low = below_of 256 f (λ i p. omega (arith, checked_file.before.before.shared-slice-known.given i))
+  low = below_of 256 f (λ i p. omega (arith, checked_file.shared_slice_known-1.given i))
 
   small : 2 * headers + 4 * records ≤ 65536
   small = counts_small f low headers records first reads
 
 -- the headers are listed
-abbrev headed : tie.After-list-records-arg → tie.After-list-headers
+abbrev headed : tie.After-list_records-arg-1 → tie.After-list_headers
 headed c = c.before.before.before
 
 check-requires : tie.Need-check-requires
 check-requires c κs = search rules
 
-enum-known-headers : tie.Need-enum-known-headers
-enum-known-headers c = search rules
+enum_known-headers : tie.Need-enum_known-headers
+enum_known-headers c = search rules
 
-enum_told : tie.Need-enum-told
-enum_told c = search rules
+enum_told-1 : tie.Need-enum_told-1
+enum_told-1 c = search rules
+
+returns-in_default : tie.Need-returns-in_default
+returns-in_default c =
+    let h = c.before in
+    lists_unread (start h).args.file.now (start h).args.places.now (sym c.in_default.is ∙ h.check.ensures)
+
+overflow_mul-headers : tie.Need-overflow_mul-headers
+overflow_mul-headers c = omega (arith, small c)
+
+overflow_mul-records : tie.Need-overflow_mul-records
+overflow_mul-records c = omega (arith, small c)
+
+overflow_add-headers : tie.Need-overflow_add-headers
+overflow_add-headers c = omega (arith, small c)
+
+returns-then-places-headers : tie.Need-returns-then-places-headers
+returns-then-places-headers c =
+    let t = c.before in
+    lists_short (f t) (start (checked_file t)).args.places.now (headers t) (records t) (first t) (reads t) c.if-places-headers.true
+
+list_headers-requires : tie.Need-list_headers-requires
+list_headers-requires c κs = ((counts c.before.before).headers_are, omega (arith, c.if-places-headers.false))
+
+overflow_mul-headers-2 : tie.Need-overflow_mul-headers-2
+overflow_mul-headers-2 c = search rules
+
+list_records-requires : tie.Need-list_records-requires
+list_records-requires c κs =
+    let h = headed c in
+    let e = h.before.before in
+    ((counts e.before).records_are, (counts e.before).first_is, omega (arith, e.if-places-headers.false, h.list_headers.auto.places))
+
+shape_of-places : tie.Need-shape_of-places
+shape_of-places c = search rules
 
 returns : tie.Need-returns
 returns c =
-    let h = c.before.before in
-    lists_unread (start h).args.file.now (start h).args.places.now (sym c.enum_told.given.1 ∙ h.check.ensures)
-
-mul-if1 : tie.Need-overflow-mul-if1
-mul-if1 c = omega (arith, small c)
-
-mul-if1-2 : tie.Need-overflow-mul-if1-2
-mul-if1-2 c = omega (arith, small c)
-
-add-if1 : tie.Need-overflow-add-if1
-add-if1 c = omega (arith, small c)
-
-returns-2 : tie.Need-returns-2
-returns-2 c =
-    let t = c.before in
-    lists_short (f t) (start (checked_file t)).args.places.now (headers t) (records t) (first t) (reads t) c.if1.true
-
-list-headers-requires : tie.Need-list-headers-requires
-list-headers-requires c κs = ((counts c.before.before).headers_are, omega (arith, c.before.if1.false))
-
-mul-list-records : tie.Need-overflow-mul-list-records
-mul-list-records c = search rules
-
-list-records-requires : tie.Need-list-records-requires
-list-records-requires c κs =
-    let h = headed c in
-    let e = h.before.before in
-    ((counts e.before).records_are, (counts e.before).first_is, omega (arith, e.if1.left, h.list-headers.kept.1.1.0))
-
-same_length : tie.Need-same-length
-same_length c = search rules
-
-returns-3 : tie.Need-returns-3
-returns-3 c =
     let r = c.before.before in
     let h = headed r.before in
     let e = h.before.before in
     let t = e.before in
-    lists_all (f t) (start (checked_file t)).args.places.now (headers t) (records t) (first t) (reads t) e.if1.left h.list-headers.last.1.1.0 r.list-records.new.1.1.1.0 h.list-headers.ensures r.list-records.ensures
+    lists_all (f t) (start (checked_file t)).args.places.now (headers t) (records t) (first t) (reads t) e.if-places-headers.false h.list_headers.new.places r.list_records.new.places h.list_headers.ensures r.list_records.ensures
 
 pub list_spec : {M : Type 1} → statement M
 list_spec =
     tie.close
     (tie.spec
     check-requires
-    enum-known-headers
-    enum_told
-    returns
-    mul-if1
-    mul-if1-2
-    add-if1
-    returns-2
-    list-headers-requires
-    mul-list-records
-    list-records-requires
-    same_length
-    returns-3)
+    enum_known-headers
+    enum_told-1
+    returns-in_default
+    overflow_mul-headers
+    overflow_mul-records
+    overflow_add-headers
+    returns-then-places-headers
+    list_headers-requires
+    overflow_mul-headers-2
+    list_records-requires
+    shape_of-places
+    returns)

@@ -16,90 +16,90 @@ use Rattle.day_list.proofs.Listing.{then_put, headers_long, headers_more, header
 use Rattle.day_list.proofs.list_headers.Statement.{statement}
 use Rattle.day_list.proofs.list_headers.Tie as tie
 
-abbrev invariant-loop : tie.invariant-loop
-invariant-loop file headers places₀ at₀ i₀ places at i =
+abbrev invariant-loop-i : tie.invariant-loop-i
+invariant-loop-i file headers places₀ at₀ i₀ places at i =
     (i ≤ headers) × (at ≡ length_place (read_day file) i) × (length places ≡ length places₀) × (places ≡ placed 0 (headers_listed (read_day file) i) places₀)
 
-abbrev decreases-loop : tie.decreases-loop
-decreases-loop file headers places₀ at₀ i₀ places at i = headers - i
+abbrev decreases-loop-i : tie.decreases-loop-i
+decreases-loop-i file headers places₀ at₀ i₀ places at i = headers - i
 
-abbrev start : tie.At-loop invariant-loop decreases-loop → tie.Start invariant-loop decreases-loop
+abbrev start : tie.At-loop-i invariant-loop-i decreases-loop-i → tie.Start invariant-loop-i decreases-loop-i
 start c = c.before.before.before
 
 -- the header that is next lies within the file, and the one after it follows
-module _ (c : tie.In-loop invariant-loop decreases-loop) where
+module _ (c : tie.In-loop-i invariant-loop-i decreases-loop-i) where
   abbrev f : Bytes
   f = (start c.before).args.file.now
 
   abbrev at : ℕ
-  at = c.before.loop.at
+  at = c.loop-i.at
 
   abbrev i : ℕ
-  i = c.before.loop.i
+  i = c.loop-i.i
 
   low : Below 256 f
-  low = below_of 256 f (λ i p. omega (arith, c.before.before.before.shared-slice-known.given i))
+  low = below_of 256 f (λ i p. omega (arith, c.shared_slice_known-1.given i))
 
   step : (at + 2 + value (take 2 (drop at f)) ≤ length f) × (at + 2 + value (take 2 (drop at f)) ≡ length_place (read_day f) (i + 1))
-  step = passed f low i at (omega (arith, (start c.before).pre.0)) c.before.loop.invariant.1
+  step = passed f low i at (omega (arith, (start c.before).requires.0)) c.loop-i.invariant.1
 
 -- and its end is put after its start
-abbrev read : tie.After-slice-known2 invariant-loop decreases-loop → tie.After-two invariant-loop decreases-loop
+abbrev read : tie.After-slice_known-in-loop-i-1 invariant-loop-i decreases-loop-i → tie.After-two invariant-loop-i decreases-loop-i
 read c = c.before.before.before.before
 
-loop-holds : tie.Need-loop-init invariant-loop decreases-loop
-loop-holds c =
-    let o = read_day c.before.before.args.file.now in
-    (omega arith, first_header o, refl, ap (λ (w : List ℕ). placed 0 w c.before.before.args.places.now) (sym (headers_none o)))
+loop-i-init : tie.Need-loop-i-init invariant-loop-i decreases-loop-i
+loop-i-init c =
+    let o = read_day c.args.file.now in
+    (omega arith, first_header o, refl, ap (λ (w : List ℕ). placed 0 w c.args.places.now) (sym (headers_none o)))
 
-add_start : tie.Need-overflow-add-start invariant-loop decreases-loop
-add_start c = omega (arith, (step c).0)
+overflow_add-start : tie.Need-overflow_add-start invariant-loop-i decreases-loop-i
+overflow_add-start c = omega (arith, (step c).0)
 
-two-requires : tie.Need-two-requires invariant-loop decreases-loop
+two-requires : tie.Need-two-requires invariant-loop-i decreases-loop-i
 two-requires c κs = omega (arith, (step c).0)
 
-add-end : tie.Need-overflow-add-end invariant-loop decreases-loop
-add-end c = omega (arith, (step c.before).0, c.two.ensures.0)
+overflow_add-end : tie.Need-overflow_add-end invariant-loop-i decreases-loop-i
+overflow_add-end c = omega (arith, (step c.before).0, c.two.ensures.0)
 
-mul-put-two : tie.Need-overflow-mul-put-two invariant-loop decreases-loop
-mul-put-two c = omega (arith, c.before.before.before.loop.invariant.2, (start c.before.before.before).pre.1)
+overflow_mul-i : tie.Need-overflow_mul-i invariant-loop-i decreases-loop-i
+overflow_mul-i c = omega (arith, c.loop-i.invariant.2, (start c.before.before.before).requires.1)
 
-put-two-requires : tie.Need-put-two-requires invariant-loop decreases-loop
-put-two-requires c κs = omega (arith, c.before.before.before.loop.invariant.2, (start c.before.before.before).pre.1)
+put_two-requires : tie.Need-put_two-requires invariant-loop-i decreases-loop-i
+put_two-requires c κs = omega (arith, c.loop-i.invariant.2, (start c.before.before.before).requires.1)
 
-add-i : tie.Need-overflow-add-i invariant-loop decreases-loop
-add-i c = search rules
+overflow_add-i : tie.Need-overflow_add-i invariant-loop-i decreases-loop-i
+overflow_add-i c = search rules
 
-loop-less : tie.Need-loop-smaller invariant-loop decreases-loop
-loop-less c = search rules
+loop-i-smaller : tie.Need-loop-i-smaller invariant-loop-i decreases-loop-i
+loop-i-smaller c = search rules
 
-loop-again : tie.Need-loop-preserved invariant-loop decreases-loop
-loop-again c =
+loop-i-preserved : tie.Need-loop-i-preserved invariant-loop-i decreases-loop-i
+loop-i-preserved c =
     let t = read c in
-    let l = t.before.before.loop in
+    let l = t.loop-i in
     let s = start t.before.before in
     let o = read_day (f t.before) in
-    let put = c.before.before.put_two in
+    let put = c.put_two in
     let next = ap (λ (n : ℕ). l.at + 2 + n) t.two.ensures.0 ∙ (step t.before).1 in
-    let inside : l.i < headers_in o = omega (arith, s.pre.0) in
+    let inside : l.i < headers_in o = omega (arith, s.requires.0) in
     let own : List ℕ = (l.at + 2) ∷ (l.at + 2 + t.two.result) ∷ [] in
     let more : headers_listed o (l.i + 1) ≡ headers_listed o l.i ++ own =
     headers_more o l.i inside ∙ ap₂ (λ (a b : ℕ). headers_listed o l.i ++ (a + 2) ∷ b ∷ []) (sym l.invariant.1) (sym next) in
     let here : 0 + 2 * l.i ≡ 2 * l.i = omega arith in (
       omega arith,
       next,
-      put.auto.0 ∙ l.invariant.2,
-      then_put 0 (2 * l.i) (headers_listed o l.i) own s.args.places.now l.places put.new.0 l.invariant.3 (headers_long o l.i (omega arith))
-          (put.ensures ∙ ap (λ (n : ℕ). placed n own l.places) (sym here)) (omega (arith, s.pre.1))
+      put.auto.places ∙ l.invariant.2,
+      then_put 0 (2 * l.i) (headers_listed o l.i) own s.args.places.now l.places put.new.places l.invariant.3 (headers_long o l.i (omega arith))
+          (put.ensures ∙ ap (λ (n : ℕ). placed n own l.places) (sym here)) (omega (arith, s.requires.1))
           ∙ ap (λ (w : List ℕ). placed 0 w s.args.places.now) (sym more),
     )
 
-same_length : tie.Need-same-length invariant-loop decreases-loop
-same_length c = c.before.loop.invariant.2
+shape_of-places : tie.Need-shape_of-places invariant-loop-i decreases-loop-i
+shape_of-places c = c.loop-i.invariant.2
 
-returns : tie.Need-returns invariant-loop decreases-loop
+returns : tie.Need-returns invariant-loop-i decreases-loop-i
 returns c =
-    let l = c.before.loop in
+    let l = c.loop-i in
     let a = (start c.before).args in
     let last : l.i ≡ a.headers = omega arith in
     l.invariant.3 ∙ ap (λ (n : ℕ). placed 0 (headers_listed (read_day a.file.now) n) a.places.now) last
@@ -108,16 +108,16 @@ pub list_headers_spec : {M : Type 1} → statement M
 list_headers_spec =
     tie.close
     (tie.spec
-    invariant-loop
-    decreases-loop
-    loop-holds
-    add_start
+    invariant-loop-i
+    decreases-loop-i
+    loop-i-init
+    overflow_add-start
     two-requires
-    add-end
-    mul-put-two
-    put-two-requires
-    add-i
-    loop-less
-    loop-again
-    same_length
+    overflow_add-end
+    overflow_mul-i
+    put_two-requires
+    overflow_add-i
+    loop-i-smaller
+    loop-i-preserved
+    shape_of-places
     returns)

@@ -15,12 +15,12 @@ use Rattle.day_list.proofs.Listing.{none_put, then_put, Passed, passes, records_
 use Rattle.day_list.proofs.list_records.Statement.{statement}
 use Rattle.day_list.proofs.list_records.Tie as tie
 
-abbrev invariant-loop : tie.invariant-loop
-invariant-loop file records first places₀ base at₀ i₀ places at i =
+abbrev invariant-loop-i : tie.invariant-loop-i
+invariant-loop-i file records first places₀ base at₀ i₀ places at i =
     (i ≤ records) × (at ≡ record_place (read_day file) i) × (length places ≡ length places₀) × (places ≡ placed base (records_listed (read_day file) i) places₀)
 
-abbrev decreases-loop : tie.decreases-loop
-decreases-loop file records first places₀ base at₀ i₀ places at i = records - i
+abbrev decreases-loop-i : tie.decreases-loop-i
+decreases-loop-i file records first places₀ base at₀ i₀ places at i = records - i
 
 -- a record's two pairs put one after the other
 two_pairs : (base i : ℕ) (v a b : List ℕ) (out mid second last : List ℕ) → mid ≡ placed base v out → length v ≡ 4 * i → length a ≡ 2 → length b ≡ 2 → base + 4 * i + 4 ≤ length out
@@ -30,83 +30,83 @@ two_pairs base i v a b out mid second last p e x y room q r =
     let here : base + (4 * i + 2) ≡ base + 4 * i + 2 = omega arith in
     then_put base (4 * i + 2) (v ++ a) b out second last one (omega (arith, length-append v a, e, x)) (r ∙ ap (λ (n : ℕ). placed n b second) (sym here)) (omega (arith, y))
 
-abbrev start : tie.At-loop invariant-loop decreases-loop → tie.Start invariant-loop decreases-loop
+abbrev start : tie.At-loop-i invariant-loop-i decreases-loop-i → tie.Start invariant-loop-i decreases-loop-i
 start c = c.before.before.before
 
 -- the record that is next
-module _ (c : tie.In-loop invariant-loop decreases-loop) where
+module _ (c : tie.In-loop-i invariant-loop-i decreases-loop-i) where
   abbrev f : Bytes
   f = (start c.before).args.file.now
 
   low : Below 256 f
-  low = below_of 256 f (λ i p. omega (arith, c.before.before.before.shared-slice-known.given i))
+  low = below_of 256 f (λ i p. omega (arith, c.shared_slice_known-1.given i))
 
-  step : Passed f c.before.loop.i c.before.loop.at
-  step = passes f low (start c.before).args.records c.before.loop.i c.before.loop.at (start c.before).pre.0 (omega arith) c.before.loop.invariant.1
+  step : Passed f c.loop-i.i c.loop-i.at
+  step = passes f low (start c.before).args.records c.loop-i.i c.loop-i.at (start c.before).requires.0 (omega arith) c.loop-i.invariant.1
 
 -- the room for it in the list
-space : (c : tie.In-loop invariant-loop decreases-loop) → (start c.before).args.base + 4 * c.before.loop.i + 4 ≤ length c.before.loop.places
-space c = omega (arith, (start c.before).pre.2, c.before.loop.invariant.2)
+space : (c : tie.In-loop-i invariant-loop-i decreases-loop-i) → (start c.before).args.base + 4 * c.loop-i.i + 4 ≤ length c.loop-i.places
+space c = omega (arith, (start c.before).requires.2, c.loop-i.invariant.2)
 
-abbrev read : tie.After-slice-known2 invariant-loop decreases-loop → tie.After-entry-at invariant-loop decreases-loop
+abbrev read : tie.After-slice_known-in-loop-i-1 invariant-loop-i decreases-loop-i → tie.After-entry_at-e invariant-loop-i decreases-loop-i
 read c = c.before.before.before.before
 
-loop-holds : tie.Need-loop-init invariant-loop decreases-loop
-loop-holds c =
-    let a = c.before.before.args in
+loop-i-init : tie.Need-loop-i-init invariant-loop-i decreases-loop-i
+loop-i-init c =
+    let a = c.args in
     let o = read_day a.file.now in
-    (omega arith, c.before.before.requires.1, refl, none_put a.base a.places.now ∙ ap (λ (w : List ℕ). placed a.base w a.places.now) (sym (records_none o)))
+    (omega arith, c.requires.1, refl, none_put a.base a.places.now ∙ ap (λ (w : List ℕ). placed a.base w a.places.now) (sym (records_none o)))
 
-entry-at-requires : tie.Need-entry-at-requires invariant-loop decreases-loop
-entry-at-requires c κs = ((step c).room, (step c).file_short)
+entry_at-e-requires : tie.Need-entry_at-e-requires invariant-loop-i decreases-loop-i
+entry_at-e-requires c κs = ((step c).room, (step c).file_short)
 
-mul-place : tie.Need-overflow-mul-place invariant-loop decreases-loop
-mul-place c = omega (arith, space c.before)
+overflow_mul-place : tie.Need-overflow_mul-place invariant-loop-i decreases-loop-i
+overflow_mul-place c = omega (arith, space c.before)
 
-add-place : tie.Need-overflow-add-place invariant-loop decreases-loop
-add-place c = omega (arith, space c.before)
+overflow_add-place : tie.Need-overflow_add-place invariant-loop-i decreases-loop-i
+overflow_add-place c = omega (arith, space c.before)
 
-put-two-requires : tie.Need-put-two-requires invariant-loop decreases-loop
-put-two-requires c κs = omega (arith, space c.before.before)
+put_two-requires : tie.Need-put_two-requires invariant-loop-i decreases-loop-i
+put_two-requires c κs = omega (arith, space c.before.before)
 
-add-put-two : tie.Need-overflow-add-put-two invariant-loop decreases-loop
-add-put-two c = omega (arith, space (read c.before).before)
+overflow_add-place-in-loop-i : tie.Need-overflow_add-place-in-loop-i invariant-loop-i decreases-loop-i
+overflow_add-place-in-loop-i c = omega (arith, space (read c.before).before)
 
-put-two-requires-2 : tie.Need-put-two-requires-2 invariant-loop decreases-loop
-put-two-requires-2 c κs = omega (arith, space (read c.before).before, c.before.before.before.put_two.auto.0)
+put_two-requires-in-loop-i : tie.Need-put_two-requires-in-loop-i invariant-loop-i decreases-loop-i
+put_two-requires-in-loop-i c κs = omega (arith, space (read c.before).before, c.put_two.auto.places)
 
-add-i : tie.Need-overflow-add-i invariant-loop decreases-loop
-add-i c = search rules
+overflow_add-i : tie.Need-overflow_add-i invariant-loop-i decreases-loop-i
+overflow_add-i c = search rules
 
-loop-less : tie.Need-loop-smaller invariant-loop decreases-loop
-loop-less c = search rules
+loop-i-smaller : tie.Need-loop-i-smaller invariant-loop-i decreases-loop-i
+loop-i-smaller c = search rules
 
-loop-again : tie.Need-loop-preserved invariant-loop decreases-loop
-loop-again c =
+loop-i-preserved : tie.Need-loop-i-preserved invariant-loop-i decreases-loop-i
+loop-i-preserved c =
     let second = c.before.before in
     let first = second.before.before.before.before in
     let t = first.before.before in
-    let l = t.before.before.loop in
+    let l = t.loop-i in
     let s = start t.before.before in
     let o = read_day (f t.before) in
-    let e = t.entry_at.result in
-    let is = t.entry_at.ensures.0 in
+    let e = t.entry_at-e.result in
+    let is = t.entry_at-e.ensures.0 in
     let own = step t.before in (
       omega arith,
       ap (λ (x : Entry). x.end) is ∙ own.next,
-      second.put-two2.auto.0 ∙ first.put_two.auto.0 ∙ l.invariant.2,
-      two_pairs s.args.base l.i (records_listed o l.i) (e.header ∷ e.stretch ∷ []) (e.start ∷ e.end ∷ []) s.args.places.now l.places first.put_two.new.0 second.put-two2.new.0 l.invariant.3
-          (records_long_list o l.i (omega (arith, s.pre.0))) refl refl (omega (arith, s.pre.2)) first.put_two.ensures second.put-two2.ensures
+      second.put_two-in-loop-i.auto.places ∙ first.put_two.auto.places ∙ l.invariant.2,
+      two_pairs s.args.base l.i (records_listed o l.i) (e.header ∷ e.stretch ∷ []) (e.start ∷ e.end ∷ []) s.args.places.now l.places first.put_two.new.places second.put_two-in-loop-i.new.places l.invariant.3
+          (records_long_list o l.i (omega (arith, s.requires.0))) refl refl (omega (arith, s.requires.2)) first.put_two.ensures second.put_two-in-loop-i.ensures
           ∙ ap (λ (x : Entry). placed s.args.base (records_listed o l.i ++ (x.header ∷ x.stretch ∷ []) ++ (x.start ∷ x.end ∷ [])) s.args.places.now) is
           ∙ ap (λ (w : List ℕ). placed s.args.base w s.args.places.now) (sym own.more),
     )
 
-same_length : tie.Need-same-length invariant-loop decreases-loop
-same_length c = c.before.loop.invariant.2
+shape_of-places : tie.Need-shape_of-places invariant-loop-i decreases-loop-i
+shape_of-places c = c.loop-i.invariant.2
 
-returns : tie.Need-returns invariant-loop decreases-loop
+returns : tie.Need-returns invariant-loop-i decreases-loop-i
 returns c =
-    let l = c.before.loop in
+    let l = c.loop-i in
     let a = (start c.before).args in
     let last : l.i ≡ a.records = omega arith in
     l.invariant.3 ∙ ap (λ (n : ℕ). placed a.base (records_listed (read_day a.file.now) n) a.places.now) last
@@ -115,17 +115,17 @@ pub list_records_spec : {M : Type 1} → statement M
 list_records_spec =
     tie.close
     (tie.spec
-    invariant-loop
-    decreases-loop
-    loop-holds
-    entry-at-requires
-    mul-place
-    add-place
-    put-two-requires
-    add-put-two
-    put-two-requires-2
-    add-i
-    loop-less
-    loop-again
-    same_length
+    invariant-loop-i
+    decreases-loop-i
+    loop-i-init
+    entry_at-e-requires
+    overflow_mul-place
+    overflow_add-place
+    put_two-requires
+    overflow_add-place-in-loop-i
+    put_two-requires-in-loop-i
+    overflow_add-i
+    loop-i-smaller
+    loop-i-preserved
+    shape_of-places
     returns)

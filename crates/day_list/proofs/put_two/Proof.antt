@@ -6,23 +6,23 @@ use Rattle.laws.proofs.Placed.{stored_two}
 use Rattle.day_list.proofs.put_two.Statement.{statement}
 use Rattle.day_list.proofs.put_two.Tie as tie
 
-mul-places : tie.Need-overflow-mul-places
-mul-places c = search rules
+offset_bounds-places-at : tie.Need-offset_bounds-places-at
+offset_bounds-places-at c = search rules
 
-slice-write-places : tie.Need-slice-write-places
-slice-write-places c = search rules
+bounds-places-at : tie.Need-bounds-places-at
+bounds-places-at c = search rules
 
-add-places : tie.Need-overflow-add-places
-add-places c = search rules
+overflow_add-places : tie.Need-overflow_add-places
+overflow_add-places c = search rules
 
-mul-places-2 : tie.Need-overflow-mul-places-2
-mul-places-2 c = search rules
+offset_bounds-places-at-2 : tie.Need-offset_bounds-places-at-2
+offset_bounds-places-at-2 c = search rules
 
-slice-write-places-2 : tie.Need-slice-write-places-2
-slice-write-places-2 c = simp length-set (omega arith)
+bounds-places-at-2 : tie.Need-bounds-places-at-2
+bounds-places-at-2 c = simp length-set (omega arith)
 
-same_length : tie.Need-same-length
-same_length c = search rules
+shape_of-places : tie.Need-shape_of-places
+shape_of-places c = search rules
 
 returns : tie.Need-returns
 returns c = let a = c.args in stored_two a.at a.x a.y a.places.now c.requires
@@ -31,10 +31,10 @@ pub put_two_spec : {M : Type 1} → statement M
 put_two_spec =
     tie.close
     (tie.spec
-    mul-places
-    slice-write-places
-    add-places
-    mul-places-2
-    slice-write-places-2
-    same_length
+    offset_bounds-places-at
+    bounds-places-at
+    overflow_add-places
+    offset_bounds-places-at-2
+    bounds-places-at-2
+    shape_of-places
     returns)

@@ -14,7 +14,7 @@ use Rattle.day_marks.proofs.Places.{places_short, mark_at, marked}
 use Rattle.day_marks.proofs.find.Statement.{statement}
 use Rattle.day_marks.proofs.find.Tie as tie
 
-module _ (c : tie.After-entry-of) where
+module _ (c : tie.After-entry_of-e) where
   abbrev start : tie.Start
   start = c.before.before
 
@@ -22,36 +22,36 @@ module _ (c : tie.After-entry-of) where
   f = start.args.file.now
 
   abbrev i : ℕ
-  i = c.entry_of.result.header / 64
+  i = c.entry_of-e.result.header / 64
 
   low : Below 256 f
-  low = below_of 256 f (λ i p. omega (arith, c.before.shared-slice-known.given i))
+  low = below_of 256 f (λ i p. omega (arith, c.shared_slice_known-1.given i))
 
   there : i < 205
-  there = marked f low c.entry_of.result.header c.entry_of.ensures.1
+  there = marked f low c.entry_of-e.result.header c.entry_of-e.ensures.1
 
   is : get_or start.args.marks.now i 0 ≡ length_place (read_day f) (64 * i)
-  is = ap (λ (l : List ℕ). get_or l i 0) start.pre.2 ∙ mark_at (read_day f) i there
+  is = ap (λ (l : List ℕ). get_or l i 0) start.requires.2 ∙ mark_at (read_day f) i there
 
-entry-of-requires : tie.Need-entry-of-requires
-entry-of-requires c κs = search rules
+entry_of-e-requires : tie.Need-entry_of-e-requires
+entry_of-e-requires c κs = search rules
 
-mul_at : tie.Need-overflow-mul-at
-mul_at c = search rules
+offset_bounds-marks-i : tie.Need-offset_bounds-marks-i
+offset_bounds-marks-i c = search rules
 
-element-copy-out-at : tie.Need-element-copy-out-at
-element-copy-out-at c = there c.before
+bounds-marks-i : tie.Need-bounds-marks-i
+bounds-marks-i c = there c.before.before
 
-cast-at : tie.Need-overflow-cast-at
-cast-at c = let e = c.before.before in omega (arith, is e, places_short (f e) (low e) (64 * i e))
+overflow_cast-at : tie.Need-overflow_cast-at
+overflow_cast-at c = let e = c.before.before.before in omega (arith, is e, places_short (f e) (low e) (64 * i e))
 
-mul-find-from : tie.Need-overflow-mul-find-from
-mul-find-from c = search rules
+overflow_mul-i : tie.Need-overflow_mul-i
+overflow_mul-i c = search rules
 
-find-from-requires : tie.Need-find-from-requires
-find-from-requires c κs =
-    let e = c.before.before in
-    ((start e).requires.0, (start e).requires.1, is e, omega (arith, ap (λ (x : Entry). x.header) e.entry_of.ensures.0))
+find_from-requires : tie.Need-find_from-requires
+find_from-requires c κs =
+    let e = c.before.before.before in
+    ((start e).requires.0, (start e).requires.1, is e, omega (arith, ap (λ (x : Entry). x.header) e.entry_of-e.ensures.0))
 
 returns : tie.Need-returns
 returns c = search rules
@@ -60,10 +60,10 @@ pub find_spec : {M : Type 1} → statement M
 find_spec =
     tie.close
     (tie.spec
-    entry-of-requires
-    mul_at
-    element-copy-out-at
-    cast-at
-    mul-find-from
-    find-from-requires
+    entry_of-e-requires
+    offset_bounds-marks-i
+    bounds-marks-i
+    overflow_cast-at
+    overflow_mul-i
+    find_from-requires
     returns)

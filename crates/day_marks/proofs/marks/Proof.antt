@@ -16,114 +16,114 @@ use Rattle.day_marks.proofs.Places.{place_smaller, places_short, marks_many, mar
 use Rattle.day_marks.proofs.marks.Statement.{statement}
 use Rattle.day_marks.proofs.marks.Tie as tie
 
-abbrev invariant-loop : tie.invariant-loop
-invariant-loop file headers marks₀ at₀ i₀ marks at i = (i ≤ 205) × (at ≡ length_place (read_day file) (64 * i)) × Front (marks_of (read_day file)) marks i
+abbrev invariant-loop-i : tie.invariant-loop-i
+invariant-loop-i file headers marks₀ at₀ i₀ marks at i = (i ≤ 205) × (at ≡ length_place (read_day file) (64 * i)) × Front (marks_of (read_day file)) marks i
 
-abbrev decreases-loop : tie.decreases-loop
-decreases-loop file headers marks₀ at₀ i₀ marks at i = 205 - i
+abbrev decreases-loop-i : tie.decreases-loop-i
+decreases-loop-i file headers marks₀ at₀ i₀ marks at i = 205 - i
 
-module _ (l : tie.At-loop invariant-loop decreases-loop) where
-  abbrev start : tie.Start invariant-loop decreases-loop
+module _ (l : tie.At-loop-i invariant-loop-i decreases-loop-i) where
+  abbrev start : tie.Start invariant-loop-i decreases-loop-i
   start = l.before.before
 
   abbrev o : Option Day
   o = read_day start.args.file.now
 
   abbrev i : ℕ
-  i = l.loop.i
+  i = l.loop-i.i
 
   low : Below 256 start.args.file.now
-  low = below_of 256 start.args.file.now (λ i p. omega (arith, l.before.shared-slice-known.given i))
+  low = below_of 256 start.args.file.now (λ i p. omega (arith, l.shared_slice_known-1.given i))
 
   -- the place stands within the file
-  short : l.loop.at ≤ 65536
-  short = omega (arith, l.loop.invariant.1, places_short start.args.file.now low (64 * i))
+  short : l.loop-i.at ≤ 65536
+  short = omega (arith, l.loop-i.invariant.1, places_short start.args.file.now low (64 * i))
 
-abbrev inside : tie.After-smaller2 invariant-loop decreases-loop → tie.In-loop invariant-loop decreases-loop
+abbrev inside : tie.After-smaller-next invariant-loop-i decreases-loop-i → tie.In-loop-i invariant-loop-i decreases-loop-i
 inside c = c.before.before
 
-abbrev looped : tie.After-smaller2 invariant-loop decreases-loop → tie.At-loop invariant-loop decreases-loop
+abbrev looped : tie.After-smaller-next invariant-loop-i decreases-loop-i → tie.At-loop-i invariant-loop-i decreases-loop-i
 looped c = (inside c).before
 
-loop-holds : tie.Need-loop-init invariant-loop decreases-loop
-loop-holds c = let o = read_day c.before.args.file.now in (omega arith, first_header o, record { long = sym (marks_many o); same = refl })
+loop-i-init : tie.Need-loop-i-init invariant-loop-i decreases-loop-i
+loop-i-init c = let o = read_day c.args.file.now in (omega arith, first_header o, record { long = sym (marks_many o); same = refl })
 
-cast-marks : tie.Need-overflow-cast-marks invariant-loop decreases-loop
-cast-marks c = omega (arith, short c.before)
+overflow_cast-marks : tie.Need-overflow_cast-marks invariant-loop-i decreases-loop-i
+overflow_cast-marks c = omega (arith, short c.before)
 
-mul-marks : tie.Need-overflow-mul-marks invariant-loop decreases-loop
-mul-marks c = search rules
+offset_bounds-marks-i : tie.Need-offset_bounds-marks-i invariant-loop-i decreases-loop-i
+offset_bounds-marks-i c = search rules
 
-array-write-marks : tie.Need-array-write-marks invariant-loop decreases-loop
-array-write-marks c = search rules
+bounds-marks-i : tie.Need-bounds-marks-i invariant-loop-i decreases-loop-i
+bounds-marks-i c = search rules
 
-mul-smaller : tie.Need-overflow-mul-smaller invariant-loop decreases-loop
-mul-smaller c = search rules
+overflow_mul-i : tie.Need-overflow_mul-i invariant-loop-i decreases-loop-i
+overflow_mul-i c = search rules
 
-smaller-requires : tie.Need-smaller-requires invariant-loop decreases-loop
-smaller-requires c κs = search rules
+smaller-from-requires : tie.Need-smaller-from-requires invariant-loop-i decreases-loop-i
+smaller-from-requires c κs = search rules
 
-mul-smaller-2 : tie.Need-overflow-mul-smaller-2 invariant-loop decreases-loop
-mul-smaller-2 c = search rules
+overflow_mul-i-in-loop-i : tie.Need-overflow_mul-i-in-loop-i invariant-loop-i decreases-loop-i
+overflow_mul-i-in-loop-i c = search rules
 
-add-smaller : tie.Need-overflow-add-smaller invariant-loop decreases-loop
-add-smaller c = search rules
+overflow_add-i : tie.Need-overflow_add-i invariant-loop-i decreases-loop-i
+overflow_add-i c = search rules
 
-smaller-requires-2 : tie.Need-smaller-requires-2 invariant-loop decreases-loop
-smaller-requires-2 c κs = search rules
+smaller-next-requires : tie.Need-smaller-next-requires invariant-loop-i decreases-loop-i
+smaller-next-requires c κs = search rules
 
-place-from-requires : tie.Need-place-from-requires invariant-loop decreases-loop
-place-from-requires c κs =
+place_from-place-requires : tie.Need-place_from-place-requires invariant-loop-i decreases-loop-i
+place_from-place-requires c κs =
     let l = looped c in
     let headers = (start l).args.headers in
-    let from = c.before.smaller.ensures in
-    let next = c.smaller2.ensures in
+    let from = c.smaller-from.ensures in
+    let next = c.smaller-next.ensures in
     let most : min (64 * i l) headers ≤ min (64 * i l + 64) headers =
     le-min (le_trans (min-le_left (64 * i l) headers) (omega arith)) (min-le_right (64 * i l) headers) in (
-      l.loop.invariant.1 ∙ sym (ap (length_place (o l)) from ∙ place_smaller (o l) (64 * i l) headers (start l).pre),
+      l.loop-i.invariant.1 ∙ sym (ap (length_place (o l)) from ∙ place_smaller (o l) (64 * i l) headers (start l).requires),
       omega (arith, from, next, most),
-      omega (arith, next, min-le_right (64 * i l + 64) headers, (start l).pre),
+      omega (arith, next, min-le_right (64 * i l + 64) headers, (start l).requires),
     )
 
-add-i : tie.Need-overflow-add-i invariant-loop decreases-loop
-add-i c = search rules
+overflow_add-i-in-loop-i : tie.Need-overflow_add-i-in-loop-i invariant-loop-i decreases-loop-i
+overflow_add-i-in-loop-i c = search rules
 
-loop-less : tie.Need-loop-smaller invariant-loop decreases-loop
-loop-less c = search rules
+loop-i-smaller : tie.Need-loop-i-smaller invariant-loop-i decreases-loop-i
+loop-i-smaller c = search rules
 
-loop-again : tie.Need-loop-preserved invariant-loop decreases-loop
-loop-again c =
+loop-i-preserved : tie.Need-loop-i-preserved invariant-loop-i decreases-loop-i
+loop-i-preserved c =
     let n = c.before in
     let l = looped n in
     let more : 64 * i l + 64 ≡ 64 * (i l + 1) = omega arith in (
       omega arith,
-      c.place-from.ensures
-          ∙ ap (length_place (o l)) n.smaller2.ensures
-          ∙ place_smaller (o l) (64 * i l + 64) (start l).args.headers (start l).pre
+      c.place_from-place.ensures
+          ∙ ap (length_place (o l)) n.smaller-next.ensures
+          ∙ place_smaller (o l) (64 * i l + 64) (start l).args.headers (start l).requires
           ∙ ap (length_place (o l)) more,
-      front_more l.loop.at l.loop.invariant.2 (omega (arith, marks_many (o l))) (l.loop.invariant.1 ∙ sym (mark_at (o l) (i l) (omega arith))),
+      front_more l.loop-i.at l.loop-i.invariant.2 (omega (arith, marks_many (o l))) (l.loop-i.invariant.1 ∙ sym (mark_at (o l) (i l) (omega arith))),
     )
 
-returns : tie.Need-returns invariant-loop decreases-loop
-returns c = let l = c.before in front_all l.loop.invariant.2 (omega (arith, marks_many (o l)))
+returns : tie.Need-returns invariant-loop-i decreases-loop-i
+returns c = let l = c.before in front_all l.loop-i.invariant.2 (omega (arith, marks_many (o l)))
 
 pub marks_spec : {M : Type 1} → statement M
 marks_spec =
     tie.close
     (tie.spec
-    invariant-loop
-    decreases-loop
-    loop-holds
-    cast-marks
-    mul-marks
-    array-write-marks
-    mul-smaller
-    smaller-requires
-    mul-smaller-2
-    add-smaller
-    smaller-requires-2
-    place-from-requires
-    add-i
-    loop-less
-    loop-again
+    invariant-loop-i
+    decreases-loop-i
+    loop-i-init
+    overflow_cast-marks
+    offset_bounds-marks-i
+    bounds-marks-i
+    overflow_mul-i
+    smaller-from-requires
+    overflow_mul-i-in-loop-i
+    overflow_add-i
+    smaller-next-requires
+    place_from-place-requires
+    overflow_add-i-in-loop-i
+    loop-i-smaller
+    loop-i-preserved
     returns)

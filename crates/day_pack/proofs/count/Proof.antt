@@ -8,52 +8,64 @@ use Rattle.day_pack.proofs.Table.{bits_more, bits_below_lem}
 use Rattle.day_pack.proofs.count.Statement.{statement}
 use Rattle.day_pack.proofs.count.Tie as tie
 
-abbrev invariant-loop : tie.invariant-loop
-invariant-loop table before n r₀ i₀ r i = (i ≤ n) × (r ≡ bits_below table i)
+abbrev invariant-loop-i : tie.invariant-loop-i
+invariant-loop-i table before n r₀ i₀ r i = (i ≤ n) × (r ≡ bits_below table i)
 
-abbrev decreases-loop : tie.decreases-loop
-decreases-loop table before n r₀ i₀ r i = n - i
+abbrev decreases-loop-i : tie.decreases-loop-i
+decreases-loop-i table before n r₀ i₀ r i = n - i
 
-mul-r : tie.Need-overflow-mul-r invariant-loop decreases-loop
-mul-r c = search rules
+offset_bounds-before-n : tie.Need-offset_bounds-before-n invariant-loop-i decreases-loop-i
+offset_bounds-before-n c = search rules
 
-element-copy-out-r : tie.Need-element-copy-out-r invariant-loop decreases-loop
-element-copy-out-r c = search rules
+bounds-before-n : tie.Need-bounds-before-n invariant-loop-i decreases-loop-i
+bounds-before-n c = search rules
 
-mul-i : tie.Need-overflow-mul-i invariant-loop decreases-loop
-mul-i c = search rules
+overflow_mul-i : tie.Need-overflow_mul-i invariant-loop-i decreases-loop-i
+overflow_mul-i c = search rules
 
-loop-holds : tie.Need-loop-init invariant-loop decreases-loop
-loop-holds c = (omega arith, c.before.requires.1)
+loop-i-init : tie.Need-loop-i-init invariant-loop-i decreases-loop-i
+loop-i-init c = (omega arith, c.requires.1)
 
-bit-requires : tie.Need-bit-requires invariant-loop decreases-loop
-bit-requires c κs = omega (arith, c.before.before.before.requires.0)
+bit-r-requires : tie.Need-bit-r-requires invariant-loop-i decreases-loop-i
+bit-r-requires c κs = omega (arith, c.requires.0)
 
-add_r : tie.Need-overflow-add-r invariant-loop decreases-loop
-add_r c =
-    let l = c.before.before.loop in
+overflow_add-r : tie.Need-overflow_add-r invariant-loop-i decreases-loop-i
+overflow_add-r c =
+    let l = c.loop-i in
     let s = c.before.before.before.before in
-    omega (arith, bits_below_lem s.args.table.now l.i, l.invariant.1, c.bit.ensures.1, s.requires.0)
+    omega (arith, bits_below_lem s.args.table.now l.i, l.invariant.1, c.bit-r.ensures.1, s.requires.0)
 
-add-i : tie.Need-overflow-add-i invariant-loop decreases-loop
-add-i c = search rules
+overflow_add-i : tie.Need-overflow_add-i invariant-loop-i decreases-loop-i
+overflow_add-i c = search rules
 
-loop-less : tie.Need-loop-smaller invariant-loop decreases-loop
-loop-less c = search rules
+loop-i-smaller : tie.Need-loop-i-smaller invariant-loop-i decreases-loop-i
+loop-i-smaller c = search rules
 
-loop-again : tie.Need-loop-preserved invariant-loop decreases-loop
-loop-again c =
-    let l = c.before.before.loop in
-    (omega arith, (λ j. l.invariant.1 j + c.bit.ensures.0 j) ∙ bits_more c.before.before.before.before.args.table.now l.i)
+loop-i-preserved : tie.Need-loop-i-preserved invariant-loop-i decreases-loop-i
+loop-i-preserved c =
+    let l = c.loop-i in
+    (omega arith, (λ j. l.invariant.1 j + c.bit-r.ensures.0 j) ∙ bits_more c.args.table.now l.i)
 
-returns : tie.Need-returns invariant-loop decreases-loop
+returns : tie.Need-returns invariant-loop-i decreases-loop-i
 returns c =
-    let l = c.before.loop in
-    let a = c.before.before.before.args in
+    let l = c.loop-i in
+    let a = c.args in
     let all : l.i ≡ a.n = omega arith in
     l.invariant.1 ∙ ap (bits_below a.table.now) all
 
 pub count_spec : {M : Type 1} → statement M
 count_spec =
     tie.close
-    (tie.spec invariant-loop decreases-loop mul-r element-copy-out-r mul-i loop-holds bit-requires add_r add-i loop-less loop-again returns)
+    (tie.spec
+    invariant-loop-i
+    decreases-loop-i
+    offset_bounds-before-n
+    bounds-before-n
+    overflow_mul-i
+    loop-i-init
+    bit-r-requires
+    overflow_add-r
+    overflow_add-i
+    loop-i-smaller
+    loop-i-preserved
+    returns)

@@ -10,28 +10,33 @@ use borrow.Author.Rules.{rules}
 use Rattle.day_pack.proofs.mark.Statement.{statement}
 use Rattle.day_pack.proofs.mark.Tie as tie
 
+returns-then-leave : tie.Need-returns-then-leave
+returns-then-leave c = search rules
+
+weight-w-requires : tie.Need-weight-w-requires
+weight-w-requires c κs = search rules
+
+bounds-table-n : tie.Need-bounds-table-n
+bounds-table-n c = search rules
+
+bounds-table-n-2 : tie.Need-bounds-table-n-2
+bounds-table-n-2 c = search rules
+
 returns : tie.Need-returns
-returns c = search rules
-
-weight-requires : tie.Need-weight-requires
-weight-requires c κs = search rules
-
-element-copy-out-table : tie.Need-element-copy-out-table
-element-copy-out-table c = search rules
-
-element-write-table : tie.Need-element-write-table
-element-write-table c = search rules
-
-returns-2 : tie.Need-returns-2
-returns-2 c =
+returns c =
     let w = c.before in
     let e = w.before in
-    let a = e.before.args in
+    let a = e.args in
     let t = a.table.now in
-    ap (λ (x : ℕ). set t (a.n / 8) (bit_or (get_or t (a.n / 8) 0) x)) w.weight.ensures.0
-    ∙ ap (λ (b : Bool). if b then t else with_bit t a.n) (sym e.if1.false)
+    ap (λ (x : ℕ). set t (a.n / 8) (bit_or (get_or t (a.n / 8) 0) x)) w.weight-w.ensures.0
+    ∙ ap (λ (b : Bool). if b then t else with_bit t a.n) (sym e.if-leave.false)
 
 pub mark_spec : {M : Type 1} → statement M
 mark_spec =
     tie.close
-    (tie.spec returns weight-requires element-copy-out-table element-write-table returns-2)
+    (tie.spec
+    returns-then-leave
+    weight-w-requires
+    bounds-table-n
+    bounds-table-n-2
+    returns)

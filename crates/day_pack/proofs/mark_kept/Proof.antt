@@ -19,16 +19,16 @@ use Rattle.day_pack.proofs.Turns.{marks_first, marks_turn, table_long, both_coun
 use Rattle.day_pack.proofs.mark_kept.Statement.{statement}
 use Rattle.day_pack.proofs.mark_kept.Tie as tie
 
-abbrev invariant-loop : tie.invariant-loop
-invariant-loop file first records dropped table₀ at₀ j₀ k₀ table at j k =
+abbrev invariant-loop-k : tie.invariant-loop-k
+invariant-loop-k file first records dropped table₀ at₀ j₀ k₀ table at j k =
     (k ≤ records) × (at ≡ end_of file first k) × Beside dropped records j k × (j + count_below (keeps dropped) k ≡ k) × (length table ≡ 1638) × MarksOf table file dropped first k
 
-abbrev decreases-loop : tie.decreases-loop
-decreases-loop file first records dropped table₀ at₀ j₀ k₀ table at j k = records - k
+abbrev decreases-loop-k : tie.decreases-loop-k
+decreases-loop-k file first records dropped table₀ at₀ j₀ k₀ table at j k = records - k
 
 -- what is known in a turn
-module _ (c : tie.In-loop invariant-loop decreases-loop) where
-  abbrev start : tie.Start invariant-loop decreases-loop
+module _ (c : tie.In-loop-k invariant-loop-k decreases-loop-k) where
+  abbrev start : tie.Start invariant-loop-k decreases-loop-k
   start = c.before.before.before.before
 
   abbrev f : Bytes
@@ -41,32 +41,32 @@ module _ (c : tie.In-loop invariant-loop decreases-loop) where
   dropped = start.args.dropped.now
 
   abbrev k : ℕ
-  k = c.before.loop.k
+  k = c.loop-k.k
 
-  room : c.before.loop.at + 7 ≤ length f
-  room = omega (arith, record_room f first start.args.records k start.pre.0 c.loop-test.true, c.before.loop.invariant.1)
+  room : c.loop-k.at + 7 ≤ length f
+  room = omega (arith, record_room f first start.args.records k start.requires.0 c.loop-k-test.true, c.loop-k.invariant.1)
 
   small : k < 65536
-  small = count_small f first start.args.records k start.pre.0 c.loop-test.true
+  small = count_small f first start.args.records k start.requires.0 c.loop-k-test.true
 
   few : number_of f first k < 13104
-  few = start.pre.0.few k c.loop-test.true
+  few = start.requires.0.few k c.loop-k-test.true
 
-  next : (has dropped k ≡ next_is dropped c.before.loop.j k)
-      × Beside dropped start.args.records (if next_is dropped c.before.loop.j k then c.before.loop.j + 1 else c.before.loop.j) (k + 1)
-  next = beside_next c.before.loop.invariant.2
+  next : (has dropped k ≡ next_is dropped c.loop-k.j k)
+      × Beside dropped start.args.records (if next_is dropped c.loop-k.j k then c.loop-k.j + 1 else c.loop-k.j) (k + 1)
+  next = beside_next c.loop-k.invariant.2
 
 -- the record is read
-module _ (c : tie.After-entry-at invariant-loop decreases-loop) where
-  entry_is : c.entry_at.result ≡ entry_at (f c.before) (end_of (f c.before) (first c.before) (k c.before))
-  entry_is = c.entry_at.ensures.0 ∙ ap (entry_at (f c.before)) c.before.before.loop.invariant.1
+module _ (c : tie.After-entry_at-e invariant-loop-k decreases-loop-k) where
+  entry_is : c.entry_at-e.result ≡ entry_at (f c.before) (end_of (f c.before) (first c.before) (k c.before))
+  entry_is = c.entry_at-e.ensures.0 ∙ ap (entry_at (f c.before)) c.loop-k.invariant.1
 
-  number_is : c.entry_at.result.header ≡ number_of (f c.before) (first c.before) (k c.before)
+  number_is : c.entry_at-e.result.header ≡ number_of (f c.before) (first c.before) (k c.before)
   number_is = ap (λ (e : Entry). e.header) entry_is
 
-loop-holds : tie.Need-loop-init invariant-loop decreases-loop
+loop-k-init : tie.Need-loop-k-init invariant-loop-k decreases-loop-k
 unfolding end_of count_below
-loop-holds c =
+loop-k-init c =
     let s = c.before.before in
     let a = s.args in (
       omega arith,
@@ -77,50 +77,50 @@ loop-holds c =
       marks_first a.table.now a.file.now a.dropped.now a.first s.requires.2,
     )
 
-entry-at-requires : tie.Need-entry-at-requires invariant-loop decreases-loop
-entry-at-requires c κs = (room c, (start c).requires.0.short)
+entry_at-e-requires : tie.Need-entry_at-e-requires invariant-loop-k decreases-loop-k
+entry_at-e-requires c κs = (room c, (start c).requires.0.short)
 
-next-is-requires : tie.Need-next-is-requires invariant-loop decreases-loop
-next-is-requires c κs = search rules
+next_is-named-requires : tie.Need-next_is-named-requires invariant-loop-k decreases-loop-k
+next_is-named-requires c κs = search rules
 
-mark-requires : tie.Need-mark-requires invariant-loop decreases-loop
+mark-requires : tie.Need-mark-requires invariant-loop-k decreases-loop-k
 mark-requires c κs = let e = c.before.before in omega (arith, number_is e, few e.before)
 
-step-requires : tie.Need-step-requires invariant-loop decreases-loop
-step-requires c κs = let t = c.before.before.before.before in omega (arith, small t, t.before.loop.invariant.3)
+step-j-requires : tie.Need-step-j-requires invariant-loop-k decreases-loop-k
+step-j-requires c κs = let t = c.before.before.before.before in omega (arith, small t, t.loop-k.invariant.3)
 
-add-k : tie.Need-overflow-add-k invariant-loop decreases-loop
-add-k c = search rules
+overflow_add-k : tie.Need-overflow_add-k invariant-loop-k decreases-loop-k
+overflow_add-k c = search rules
 
-loop-less : tie.Need-loop-smaller invariant-loop decreases-loop
-loop-less c = search rules
+loop-k-smaller : tie.Need-loop-k-smaller invariant-loop-k decreases-loop-k
+loop-k-smaller c = search rules
 
-loop-again : tie.Need-loop-preserved invariant-loop decreases-loop
-loop-again c =
+loop-k-preserved : tie.Need-loop-k-preserved invariant-loop-k decreases-loop-k
+loop-k-preserved c =
     let m = c.before in
     let n = m.before.before in
     let e = n.before in
     let t = e.before in
-    let l = t.before.loop in
-    let so : has (dropped t) (k t) ≡ n.next-is.result = (next t).0 ∙ sym n.next-is.ensures in
-    let stepped : c.step.result ≡ (if n.next-is.result then l.j + 1 else l.j) = c.step.ensures in
-    let marked : m.mark.new.0 ≡ (if n.next-is.result then l.table else with_bit l.table (number_of (f t) (first t) (k t))) =
-    m.mark.ensures ∙ ap (λ (x : ℕ). if n.next-is.result then l.table else with_bit l.table x) (number_is e) in (
+    let l = t.loop-k in
+    let so : has (dropped t) (k t) ≡ n.next_is-named.result = (next t).0 ∙ sym n.next_is-named.ensures in
+    let stepped : c.step-j.result ≡ (if n.next_is-named.result then l.j + 1 else l.j) = c.step-j.ensures in
+    let marked : m.mark.new.table ≡ (if n.next_is-named.result then l.table else with_bit l.table (number_of (f t) (first t) (k t))) =
+    m.mark.ensures ∙ ap (λ (x : ℕ). if n.next_is-named.result then l.table else with_bit l.table x) (number_is e) in (
       omega arith,
       ap (λ (x : Entry). x.end) (entry_is e) ∙ sym (end_more (f t) (first t) (k t)),
-      subst (λ (j : ℕ). Beside (dropped t) (start t).args.records j (k t + 1)) (sym (stepped ∙ ap (λ (b : Bool). if b then l.j + 1 else l.j) n.next-is.ensures)) (next t).1,
-      ap (λ (j : ℕ). j + count_below (keeps (dropped t)) (k t + 1)) stepped ∙ both_counted (dropped t) l.j (k t) n.next-is.result so l.invariant.3,
-      table_long l.table m.mark.new.0 n.next-is.result (number_of (f t) (first t) (k t)) l.invariant.4 marked,
-      marks_turn l.table (f t) (dropped t) (first t) (k t) l.invariant.4 (few t) l.invariant.5 n.next-is.result so m.mark.new.0 marked,
+      subst (λ (j : ℕ). Beside (dropped t) (start t).args.records j (k t + 1)) (sym (stepped ∙ ap (λ (b : Bool). if b then l.j + 1 else l.j) n.next_is-named.ensures)) (next t).1,
+      ap (λ (j : ℕ). j + count_below (keeps (dropped t)) (k t + 1)) stepped ∙ both_counted (dropped t) l.j (k t) n.next_is-named.result so l.invariant.3,
+      table_long l.table m.mark.new.table n.next_is-named.result (number_of (f t) (first t) (k t)) l.invariant.4 marked,
+      marks_turn l.table (f t) (dropped t) (first t) (k t) l.invariant.4 (few t) l.invariant.5 n.next_is-named.result so m.mark.new.table marked,
     )
 
-sub-result : tie.Need-overflow-sub-result invariant-loop decreases-loop
-sub-result c = omega (arith, c.before.loop.invariant.3)
+overflow_sub-result : tie.Need-overflow_sub-result invariant-loop-k decreases-loop-k
+overflow_sub-result c = omega (arith, c.loop-k.invariant.3)
 
-returns : tie.Need-returns invariant-loop decreases-loop
+returns : tie.Need-returns invariant-loop-k decreases-loop-k
 returns c =
-    let l = c.before.loop in
-    let a = c.before.before.before.before.args in
+    let l = c.loop-k in
+    let a = c.args in
     let all : l.k ≡ a.records = omega arith in (
       omega (arith, l.invariant.3, ap (count_below (keeps a.dropped.now)) all),
       subst (λ (n : ℕ). MarksOf l.table a.file.now a.dropped.now a.first n) all l.invariant.5,
@@ -130,15 +130,15 @@ pub mark_kept_spec : {M : Type 1} → statement M
 mark_kept_spec =
     tie.close
     (tie.spec
-    invariant-loop
-    decreases-loop
-    loop-holds
-    entry-at-requires
-    next-is-requires
+    invariant-loop-k
+    decreases-loop-k
+    loop-k-init
+    entry_at-e-requires
+    next_is-named-requires
     mark-requires
-    step-requires
-    add-k
-    loop-less
-    loop-again
-    sub-result
+    step-j-requires
+    overflow_add-k
+    loop-k-smaller
+    loop-k-preserved
+    overflow_sub-result
     returns)

@@ -11,31 +11,36 @@ use borrow.Author.Rules.{rules}
 use Rattle.day_pack.proofs.move_kept.Statement.{statement}
 use Rattle.day_pack.proofs.move_kept.Tie as tie
 
-move-left-requires : tie.Need-move-left-requires
-move-left-requires c κs = search rules
+move_left-requires : tie.Need-move_left-requires
+move_left-requires c κs = search rules
 
-add-result : tie.Need-overflow-add-result
-add-result c = search rules
+overflow_add-result : tie.Need-overflow_add-result
+overflow_add-result c = search rules
 
-same_length : tie.Need-same-length
-same_length c = search rules
+shape_of-out-then-set-eq1 : tie.Need-shape_of-out-then-set-eq1
+shape_of-out-then-set-eq1 c = search rules
 
-returns : tie.Need-returns
-returns c =
+returns-then-set-eq1 : tie.Need-returns-then-set-eq1
+returns-then-set-eq1 c =
     let m = c.before.before in
     let t = m.before.before in
     let s = t.before.before in
     let a = s.args in
     let X : Bytes = take a.n (drop a.from a.out.now) in
-    let is = part_set a.set X t.if1.true in
+    let is = part_set a.set X t.if-set-eq1.true in
     let long : length X ≡ a.n = length-take-le a.n (drop a.from a.out.now) (omega (arith, length-drop a.from a.out.now, s.requires.1)) in
-    (omega (arith, ap length is, long), m.move-left.ensures ∙ ap (λ (w : Bytes). placed a.to w a.out.now) (sym is))
+    (omega (arith, ap length is, long), m.move_left.ensures ∙ ap (λ (w : Bytes). placed a.to w a.out.now) (sym is))
 
-returns-2 : tie.Need-returns-2
-returns-2 c =
-    let a = c.before.before.args in
-    let is = part_unset a.set (take a.n (drop a.from a.out.now)) c.if1.false in
+returns : tie.Need-returns
+returns c =
+    let a = c.args in
+    let is = part_unset a.set (take a.n (drop a.from a.out.now)) c.if-set-eq1.false in
     (omega (arith, ap length is), placed_none a.to _ a.out.now is)
 
 pub move_kept_spec : {M : Type 1} → statement M
-move_kept_spec = tie.close (tie.spec move-left-requires add-result same_length returns returns-2)
+move_kept_spec = tie.close (tie.spec
+    move_left-requires
+    overflow_add-result
+    shape_of-out-then-set-eq1
+    returns-then-set-eq1
+    returns)

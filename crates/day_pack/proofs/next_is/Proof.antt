@@ -8,22 +8,26 @@ use borrow.Author.Rules.{rules}
 use Rattle.day_pack.proofs.next_is.Statement.{statement}
 use Rattle.day_pack.proofs.next_is.Tie as tie
 
-mul-result : tie.Need-overflow-mul-result
-mul-result c = search rules
+offset_bounds-dropped-j : tie.Need-offset_bounds-dropped-j
+offset_bounds-dropped-j c = search rules
 
-shared-slice-read-result : tie.Need-shared-slice-read-result
-shared-slice-read-result c = search rules
+bounds-dropped-j : tie.Need-bounds-dropped-j
+bounds-dropped-j c = search rules
+
+returns-then-j-dropped : tie.Need-returns-then-j-dropped
+returns-then-j-dropped c =
+    let t = c.before in
+    let a = t.args in
+    ap (λ (b : Bool). b && eqb (get_or a.dropped.now a.j 0) a.k) (sym (lt-ltb a.j (length a.dropped.now) t.if-j-dropped.true))
 
 returns : tie.Need-returns
 returns c =
-    let t = c.before in
-    let a = t.before.args in
-    ap (λ (b : Bool). b && eqb (get_or a.dropped.now a.j 0) a.k) (sym (lt-ltb a.j (length a.dropped.now) t.if1.true))
-
-returns-2 : tie.Need-returns-2
-returns-2 c =
-    let a = c.before.args in
-    ap (λ (b : Bool). b && eqb (get_or a.dropped.now a.j 0) a.k) (sym (le-ltb a.j (length a.dropped.now) c.if1.false))
+    let a = c.args in
+    ap (λ (b : Bool). b && eqb (get_or a.dropped.now a.j 0) a.k) (sym (le-ltb a.j (length a.dropped.now) c.if-j-dropped.false))
 
 pub next_is_spec : {M : Type 1} → statement M
-next_is_spec = tie.close (tie.spec mul-result shared-slice-read-result returns returns-2)
+next_is_spec = tie.close (tie.spec
+    offset_bounds-dropped-j
+    bounds-dropped-j
+    returns-then-j-dropped
+    returns)

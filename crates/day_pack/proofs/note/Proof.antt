@@ -9,23 +9,27 @@ use Rattle.paper.specs.Strings.{if◌then◌else◌}
 use Rattle.day_pack.proofs.note.Statement.{statement}
 use Rattle.day_pack.proofs.note.Tie as tie
 
-mul-before : tie.Need-overflow-mul-before
-mul-before c = search rules
+offset_bounds-before-n : tie.Need-offset_bounds-before-n
+offset_bounds-before-n c = search rules
 
-element-write-before : tie.Need-element-write-before
-element-write-before c = search rules
+bounds-before-n : tie.Need-bounds-before-n
+bounds-before-n c = search rules
 
-returns : tie.Need-returns
-returns c =
-    let a = c.before.args in
-    ap (λ (b : Bool). if b then set a.before.now (a.n / 64) a.r else a.before.now) (sym (eq-eqb (a.n % 64) 0 c.if1.true))
+returns-then-n-eq0 : tie.Need-returns-then-n-eq0
+returns-then-n-eq0 c =
+    let a = c.args in
+    ap (λ (b : Bool). if b then set a.before.now (a.n / 64) a.r else a.before.now) (sym (eq-eqb (a.n % 64) 0 c.if-n-eq0.true))
 
-returns-2 : tie.Need-returns-2
-returns-2 c =
-    let a = c.before.args in
-    ap (λ (b : Bool). if b then set a.before.now (a.n / 64) a.r else a.before.now) (sym (ne_eqb (a.n % 64) 0 c.if1.false))
+returns-else-n-eq0 : tie.Need-returns-else-n-eq0
+returns-else-n-eq0 c =
+    let a = c.args in
+    ap (λ (b : Bool). if b then set a.before.now (a.n / 64) a.r else a.before.now) (sym (ne_eqb (a.n % 64) 0 c.if-n-eq0.false))
 
 pub note_spec : {M : Type 1} → statement M
 note_spec =
     tie.close
-    (tie.spec mul-before element-write-before returns returns-2)
+    (tie.spec
+    offset_bounds-before-n
+    bounds-before-n
+    returns-then-n-eq0
+    returns-else-n-eq0)

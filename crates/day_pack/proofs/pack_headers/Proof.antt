@@ -17,12 +17,12 @@ use Rattle.day_pack.proofs.Turns.{head_more, head_rises, heads_more, part_short}
 use Rattle.day_pack.proofs.pack_headers.Statement.{statement}
 use Rattle.day_pack.proofs.pack_headers.Tie as tie
 
-abbrev invariant-loop : tie.invariant-loop
-invariant-loop out₀ headers table from₀ to₀ i₀ out from to i =
+abbrev invariant-loop-i : tie.invariant-loop-i
+invariant-loop-i out₀ headers table from₀ to₀ i₀ out from to i =
     (i ≤ headers) × (from ≡ head_end out₀ i) × (to ≡ 4 + length (heads_kept out₀ table i)) × Packed out₀ (take 4 out₀ ++ heads_kept out₀ table i) from out
 
-abbrev decreases-loop : tie.decreases-loop
-decreases-loop out₀ headers table from₀ to₀ i₀ out from to i = headers - i
+abbrev decreases-loop-i : tie.decreases-loop-i
+decreases-loop-i out₀ headers table from₀ to₀ i₀ out from to i = headers - i
 
 -- the four bytes of the count lie within the buffer
 count_room : (out : Bytes) (headers : ℕ) → head_end out headers ≤ length out → 4 ≤ length out
@@ -30,8 +30,8 @@ unfolding head_end
 count_room out headers p = let here : 0 + headers ≡ headers = omega arith in omega (arith, head_rises out 0 headers, ap (head_end out) here)
 
 -- what is known in a turn
-module _ (c : tie.In-loop invariant-loop decreases-loop) where
-  abbrev start : tie.Start invariant-loop decreases-loop
+module _ (c : tie.In-loop-i invariant-loop-i decreases-loop-i) where
+  abbrev start : tie.Start invariant-loop-i decreases-loop-i
   start = c.before.before.before
 
   abbrev out₀ : Bytes
@@ -41,10 +41,10 @@ module _ (c : tie.In-loop invariant-loop decreases-loop) where
   table = start.args.table.now
 
   abbrev i : ℕ
-  i = c.before.loop.i
+  i = c.loop-i.i
 
-  abbrev now_packed : Packed out₀ (take 4 out₀ ++ heads_kept out₀ table i) c.before.loop.from c.before.loop.out
-  now_packed = c.before.loop.invariant.3
+  abbrev now_packed : Packed out₀ (take 4 out₀ ++ heads_kept out₀ table i) c.loop-i.from c.loop-i.out
+  now_packed = c.loop-i.invariant.3
 
   -- the header and its length
   abbrev size : ℕ
@@ -57,94 +57,94 @@ module _ (c : tie.In-loop invariant-loop decreases-loop) where
   next_inside =
       let left = start.args.headers - (i + 1) in
       let all : i + 1 + left ≡ start.args.headers = omega arith in
-      omega (arith, head_rises out₀ (i + 1) left, ap (head_end out₀) all, start.pre.0)
+      omega (arith, head_rises out₀ (i + 1) left, ap (head_end out₀) all, start.requires.0)
 
   room : head_end out₀ i + size ≤ length out₀
   room = omega (arith, next_inside, head_more out₀ i)
 
-  read_same : drop c.before.loop.from c.before.loop.out ≡ drop (head_end out₀ i) out₀
-  read_same = now_packed.rest ∙ ap (λ (n : ℕ). drop n out₀) c.before.loop.invariant.1
+  read_same : drop c.loop-i.from c.loop-i.out ≡ drop (head_end out₀ i) out₀
+  read_same = now_packed.rest ∙ ap (λ (n : ℕ). drop n out₀) c.loop-i.invariant.1
 
-  written_long : length (take 4 out₀ ++ heads_kept out₀ table i) ≡ c.before.loop.to
+  written_long : length (take 4 out₀ ++ heads_kept out₀ table i) ≡ c.loop-i.to
   written_long =
       omega
-      (arith, length-append (take 4 out₀) (heads_kept out₀ table i), length-take-le 4 out₀ (count_room out₀ start.args.headers start.pre.0), c.before.loop.invariant.2)
+      (arith, length-append (take 4 out₀) (heads_kept out₀ table i), length-take-le 4 out₀ (count_room out₀ start.args.headers start.requires.0), c.loop-i.invariant.2)
 
 -- the length is read
-module _ (c : tie.After-two invariant-loop decreases-loop) where
-  abbrev turn : tie.In-loop invariant-loop decreases-loop
-  turn = c.before.before
+module _ (c : tie.After-two-n invariant-loop-i decreases-loop-i) where
+  abbrev turn : tie.In-loop-i invariant-loop-i decreases-loop-i
+  turn = c.before
 
-  size_is : 2 + c.two.result ≡ size turn
-  size_is = ap (λ (n : ℕ). 2 + n) (c.two.ensures.0 ∙ ap (λ (X : Bytes). value (take 2 X)) (read_same turn))
+  size_is : 2 + c.two-n.result ≡ size turn
+  size_is = ap (λ (n : ℕ). 2 + n) (c.two-n.ensures.0 ∙ ap (λ (X : Bytes). value (take 2 X)) (read_same turn))
 
-loop-holds : tie.Need-loop-init invariant-loop decreases-loop
+loop-i-init : tie.Need-loop-i-init invariant-loop-i decreases-loop-i
 unfolding head_end heads_kept
-loop-holds c =
+loop-i-init c =
     let s = c.before in
     let o = s.args.out.now in
     let four = count_room o s.args.headers s.requires.0 in
     (omega arith, refl, refl, packed_as (sym (append-nil (take 4 o))) refl (packed_start o 4 4 (omega arith) four))
 
-two-requires : tie.Need-two-requires invariant-loop decreases-loop
-two-requires c κs =
-    let t = c.before in
-    omega (arith, room t, t.before.loop.invariant.1, (now_packed t).long)
+two-n-requires : tie.Need-two-n-requires invariant-loop-i decreases-loop-i
+two-n-requires c κs =
+    let t = c in
+    omega (arith, room t, t.loop-i.invariant.1, (now_packed t).long)
 
-add-n : tie.Need-overflow-add-n invariant-loop decreases-loop
-add-n c = omega (arith, c.two.ensures.1)
+overflow_add-n : tie.Need-overflow_add-n invariant-loop-i decreases-loop-i
+overflow_add-n c = omega (arith, c.two-n.ensures.1)
 
-bit-requires : tie.Need-bit-requires invariant-loop decreases-loop
-bit-requires c κs = let t = turn c.before in omega (arith, (start t).pre.1)
+bit-requires : tie.Need-bit-requires invariant-loop-i decreases-loop-i
+bit-requires c κs = let t = turn c.before in omega (arith, (start t).requires.1)
 
-move-kept-requires : tie.Need-move-kept-requires invariant-loop decreases-loop
-move-kept-requires c κs =
+move_kept-to-requires : tie.Need-move_kept-to-requires invariant-loop-i decreases-loop-i
+move_kept-to-requires c κs =
     let w = c.before.before in
     let t = turn w in
-    (omega (arith, (now_packed t).behind, written_long t), omega (arith, room t, size_is w, t.before.loop.invariant.1, (now_packed t).long))
+    (omega (arith, (now_packed t).behind, written_long t), omega (arith, room t, size_is w, t.loop-i.invariant.1, (now_packed t).long))
 
-add-from : tie.Need-overflow-add-from invariant-loop decreases-loop
-add-from c =
+overflow_add-from : tie.Need-overflow_add-from invariant-loop-i decreases-loop-i
+overflow_add-from c =
     let w = c.before.before.before.before.before in
     let t = turn w in
-    omega (arith, room t, size_is w, t.before.loop.invariant.1)
+    omega (arith, room t, size_is w, t.loop-i.invariant.1)
 
-add-i : tie.Need-overflow-add-i invariant-loop decreases-loop
-add-i c = search rules
+overflow_add-i : tie.Need-overflow_add-i invariant-loop-i decreases-loop-i
+overflow_add-i c = search rules
 
-loop-less : tie.Need-loop-smaller invariant-loop decreases-loop
-loop-less c = search rules
+loop-i-smaller : tie.Need-loop-i-smaller invariant-loop-i decreases-loop-i
+loop-i-smaller c = search rules
 
-loop-again : tie.Need-loop-preserved invariant-loop decreases-loop
-loop-again c =
+loop-i-preserved : tie.Need-loop-i-preserved invariant-loop-i decreases-loop-i
+loop-i-preserved c =
     let m = c.before.before in
     let b = m.before in
     let w = b.before.before in
     let t = turn w in
-    let l = t.before.loop in
-    let part : kept_part b.bit.result (take (2 + w.two.result) (drop l.from l.out)) ≡ kept_part (bit_of (table t) (i t)) (own t) =
+    let l = t.loop-i in
+    let part : kept_part b.bit.result (take (2 + w.two-n.result) (drop l.from l.out)) ≡ kept_part (bit_of (table t) (i t)) (own t) =
     λ j. kept_part (b.bit.ensures.0 j) (take (size_is w j) (read_same t j)) in
     let kept = kept_part (bit_of (table t) (i t)) (own t) in
-    let next : l.from + (2 + w.two.result) ≡ head_end (out₀ t) (i t + 1) = omega (arith, l.invariant.1, size_is w, head_more (out₀ t) (i t)) in
+    let next : l.from + (2 + w.two-n.result) ≡ head_end (out₀ t) (i t + 1) = omega (arith, l.invariant.1, size_is w, head_more (out₀ t) (i t)) in
     let more = heads_more (out₀ t) (table t) (i t) in
     let short : length kept ≤ size t =
     omega (arith, part_short (bit_of (table t) (i t)) (own t), length-take-le (size t) (drop (head_end (out₀ t) (i t)) (out₀ t)) (omega (arith, room t, length-drop (head_end (out₀ t) (i t)) (out₀ t)))) in (
       omega arith,
       next,
-      m.move-kept.ensures.0 ∙ omega (arith, ap length part, l.invariant.2, ap length more, length-append (heads_kept (out₀ t) (table t) (i t)) kept),
+      m.move_kept-to.ensures.0 ∙ omega (arith, ap length part, l.invariant.2, ap length more, length-append (heads_kept (out₀ t) (table t) (i t)) kept),
       packed_as (append_assoc (take 4 (out₀ t)) (heads_kept (out₀ t) (table t) (i t)) kept ∙ ap (λ (X : Bytes). take 4 (out₀ t) ++ X) (sym more)) refl
-          (packed_more (now_packed t) l.to (sym (written_long t)) kept (l.from + (2 + w.two.result)) (omega arith)
-          (omega (arith, short, (now_packed t).behind, written_long t, size_is w)) (omega (arith, next, next_inside t)) m.move-kept.new.0
-          (m.move-kept.ensures.1 ∙ ap (λ (X : Bytes). placed l.to X l.out) part)),
+          (packed_more (now_packed t) l.to (sym (written_long t)) kept (l.from + (2 + w.two-n.result)) (omega arith)
+          (omega (arith, short, (now_packed t).behind, written_long t, size_is w)) (omega (arith, next, next_inside t)) m.move_kept-to.new.out
+          (m.move_kept-to.ensures.1 ∙ ap (λ (X : Bytes). placed l.to X l.out) part)),
     )
 
-same_length : tie.Need-same-length invariant-loop decreases-loop
-same_length c = c.before.loop.invariant.3.long
+shape_of-out : tie.Need-shape_of-out invariant-loop-i decreases-loop-i
+shape_of-out c = c.loop-i.invariant.3.long
 
-returns : tie.Need-returns invariant-loop decreases-loop
+returns : tie.Need-returns invariant-loop-i decreases-loop-i
 returns c =
-    let l = c.before.loop in
-    let a = c.before.before.before.args in
+    let l = c.loop-i in
+    let a = c.args in
     let o = a.out.now in
     let t = a.table.now in
     let all : l.i ≡ a.headers = omega arith in (
@@ -156,16 +156,16 @@ pub pack_headers_spec : {M : Type 1} → statement M
 pack_headers_spec =
     tie.close
     (tie.spec
-    invariant-loop
-    decreases-loop
-    loop-holds
-    two-requires
-    add-n
+    invariant-loop-i
+    decreases-loop-i
+    loop-i-init
+    two-n-requires
+    overflow_add-n
     bit-requires
-    move-kept-requires
-    add-from
-    add-i
-    loop-less
-    loop-again
-    same_length
+    move_kept-to-requires
+    overflow_add-from
+    overflow_add-i
+    loop-i-smaller
+    loop-i-preserved
+    shape_of-out
     returns)

@@ -23,18 +23,18 @@ use Rattle.day_pack.proofs.Turns.{record_room, record_end, count_small, first_in
 use Rattle.day_pack.proofs.pack_records.Statement.{statement}
 use Rattle.day_pack.proofs.pack_records.Tie as tie
 
-abbrev invariant-loop : tie.invariant-loop
-invariant-loop out₀ first records last start dropped table before from₀ to₀ j₀ k₀ out from to j k =
+abbrev invariant-loop-k : tie.invariant-loop-k
+invariant-loop-k out₀ first records last start dropped table before from₀ to₀ j₀ k₀ out from to j k =
     (k ≤ records) × (from ≡ end_of (take last out₀) first k) × Beside dropped records j k × (j ≤ k)
     × (to ≡ start + length (records_kept (take last out₀) table dropped first k))
     × Packed out₀ (take start out₀ ++ records_kept (take last out₀) table dropped first k) from out
 
-abbrev decreases-loop : tie.decreases-loop
-decreases-loop out₀ first records last start dropped table before from₀ to₀ j₀ k₀ out from to j k = records - k
+abbrev decreases-loop-k : tie.decreases-loop-k
+decreases-loop-k out₀ first records last start dropped table before from₀ to₀ j₀ k₀ out from to j k = records - k
 
 -- what is known in a turn
-module _ (c : tie.In-loop invariant-loop decreases-loop) where
-  abbrev begin : tie.Start invariant-loop decreases-loop
+module _ (c : tie.In-loop-k invariant-loop-k decreases-loop-k) where
+  abbrev begin : tie.Start invariant-loop-k decreases-loop-k
   begin = c.before.before.before.before
 
   abbrev out₀ : Bytes
@@ -56,16 +56,16 @@ module _ (c : tie.In-loop invariant-loop decreases-loop) where
   table = begin.args.table.now
 
   abbrev k : ℕ
-  k = c.before.loop.k
+  k = c.loop-k.k
 
   abbrev kept : Bytes
   kept = records_kept f table dropped first k
 
-  abbrev now_packed : Packed out₀ (take begin.args.start out₀ ++ kept) c.before.loop.from c.before.loop.out
-  now_packed = c.before.loop.invariant.5
+  abbrev now_packed : Packed out₀ (take begin.args.start out₀ ++ kept) c.loop-k.from c.loop-k.out
+  now_packed = c.loop-k.invariant.5
 
   f_long : length f ≡ last
-  f_long = length-take-le last out₀ begin.pre.3
+  f_long = length-take-le last out₀ begin.requires.3
 
   -- where the record stands and ends
   abbrev at : ℕ
@@ -75,76 +75,76 @@ module _ (c : tie.In-loop invariant-loop decreases-loop) where
   end = end_of f first (k + 1)
 
   room : at + 7 ≤ last
-  room = omega (arith, record_room f first begin.args.records k begin.pre.0 c.loop-test.true, f_long)
+  room = omega (arith, record_room f first begin.args.records k begin.requires.0 c.loop-k-test.true, f_long)
 
   end_inside : end ≤ last
-  end_inside = omega (arith, record_end f first begin.args.records k begin.pre.0 c.loop-test.true, f_long)
+  end_inside = omega (arith, record_end f first begin.args.records k begin.requires.0 c.loop-k-test.true, f_long)
 
   long_enough : at + 7 ≤ end
   long_enough = omega (arith, end_more f first k)
 
   small : k < 65536
-  small = count_small f first begin.args.records k begin.pre.0 c.loop-test.true
+  small = count_small f first begin.args.records k begin.requires.0 c.loop-k-test.true
 
   few : number_of f first k < 13104
-  few = begin.pre.0.few k c.loop-test.true
+  few = begin.requires.0.few k c.loop-k-test.true
 
-  next : (has dropped k ≡ next_is dropped c.before.loop.j k)
-      × Beside dropped begin.args.records (if next_is dropped c.before.loop.j k then c.before.loop.j + 1 else c.before.loop.j) (k + 1)
-  next = beside_next c.before.loop.invariant.2
+  next : (has dropped k ≡ next_is dropped c.loop-k.j k)
+      × Beside dropped begin.args.records (if next_is dropped c.loop-k.j k then c.loop-k.j + 1 else c.loop-k.j) (k + 1)
+  next = beside_next c.loop-k.invariant.2
 
-  here : c.before.loop.from ≡ at
-  here = c.before.loop.invariant.1
+  here : c.loop-k.from ≡ at
+  here = c.loop-k.invariant.1
 
   -- what is still to come is as it was
-  same : drop at c.before.loop.out ≡ drop at out₀
-  same = ap (λ (n : ℕ). drop n c.before.loop.out) (sym here) ∙ now_packed.rest ∙ ap (λ (n : ℕ). drop n out₀) here
+  same : drop at c.loop-k.out ≡ drop at out₀
+  same = ap (λ (n : ℕ). drop n c.loop-k.out) (sym here) ∙ now_packed.rest ∙ ap (λ (n : ℕ). drop n out₀) here
 
-  front_long : length (take last c.before.loop.out) ≡ last
-  front_long = length-take-le last c.before.loop.out (omega (arith, now_packed.long, begin.pre.3))
+  front_long : length (take last c.loop-k.out) ≡ last
+  front_long = length-take-le last c.loop-k.out (omega (arith, now_packed.long, begin.requires.3))
 
   abbrev body : Bytes
   body = take (end - (at + 2)) (drop (at + 2) f)
 
-  body_same : take (end - (at + 2)) (drop (at + 2) c.before.loop.out) ≡ body
+  body_same : take (end - (at + 2)) (drop (at + 2) c.loop-k.out) ≡ body
   body_same =
-      ap (take (end - (at + 2))) (sym (drop-drop 2 at c.before.loop.out) ∙ ap (drop 2) same ∙ drop-drop 2 at out₀)
-      ∙ sym (part_front out₀ (at + 2) (end - (at + 2)) last (omega (arith, end_inside, long_enough)) begin.pre.3)
+      ap (take (end - (at + 2))) (sym (drop-drop 2 at c.loop-k.out) ∙ ap (drop 2) same ∙ drop-drop 2 at out₀)
+      ∙ sym (part_front out₀ (at + 2) (end - (at + 2)) last (omega (arith, end_inside, long_enough)) begin.requires.3)
 
   body_long : length body ≡ end - (at + 2)
   body_long = length-take-le (end - (at + 2)) (drop (at + 2) f) (omega (arith, length-drop (at + 2) f, f_long, end_inside, long_enough))
 
-  written_long : length (take begin.args.start out₀ ++ kept) ≡ c.before.loop.to
+  written_long : length (take begin.args.start out₀ ++ kept) ≡ c.loop-k.to
   written_long =
       omega
-      (arith, length-append (take begin.args.start out₀) kept, length-take-le begin.args.start out₀ (omega (arith, begin.pre.2, first_inside f first begin.args.records begin.pre.0, f_long, begin.pre.3)), c.before.loop.invariant.4)
+      (arith, length-append (take begin.args.start out₀) kept, length-take-le begin.args.start out₀ (omega (arith, begin.requires.2, first_inside f first begin.args.records begin.requires.0, f_long, begin.requires.3)), c.loop-k.invariant.4)
 
 -- the record is read
-module _ (c : tie.After-entry-at invariant-loop decreases-loop) where
-  abbrev turn : tie.In-loop invariant-loop decreases-loop
-  turn = c.before.before
+module _ (c : tie.After-entry_at-e invariant-loop-k decreases-loop-k) where
+  abbrev turn : tie.In-loop-k invariant-loop-k decreases-loop-k
+  turn = c.before
 
-  entry_is : c.entry_at.result ≡ entry_at (f turn) (at turn)
+  entry_is : c.entry_at-e.result ≡ entry_at (f turn) (at turn)
   entry_is =
-      let l = turn.before.loop in
-      c.entry_at.ensures.0
+      let l = turn.loop-k in
+      c.entry_at-e.ensures.0
       ∙ ap (entry_at (take (last turn) l.out)) (here turn)
       ∙ same_entry (take (last turn) l.out) (f turn) (at turn)
-      (same_front l.out (out₀ turn) (at turn) (last turn) (omega (arith, room turn)) (omega (arith, (now_packed turn).long, (begin turn).pre.3)) (now_packed turn).long (same turn))
+      (same_front l.out (out₀ turn) (at turn) (last turn) (omega (arith, room turn)) (omega (arith, (now_packed turn).long, (begin turn).requires.3)) (now_packed turn).long (same turn))
 
-  number_is : c.entry_at.result.header ≡ number_of (f turn) (first turn) (k turn)
+  number_is : c.entry_at-e.result.header ≡ number_of (f turn) (first turn) (k turn)
   number_is = ap (λ (e : Entry). e.header) entry_is
 
-  end_is : c.entry_at.result.end ≡ end turn
+  end_is : c.entry_at-e.result.end ≡ end turn
   end_is = ap (λ (e : Entry). e.end) entry_is ∙ sym (end_more (f turn) (first turn) (k turn))
 
 at_most : (j k : ℕ) (c : Bool) (r : ℕ) → r ≡ (if c then j + 1 else j) → j ≤ k → r ≤ k + 1
 at_most j k true r e p = omega (arith, e)
 at_most j k false r e p = omega (arith, e)
 
-loop-holds : tie.Need-loop-init invariant-loop decreases-loop
+loop-k-init : tie.Need-loop-k-init invariant-loop-k decreases-loop-k
 unfolding end_of records_kept
-loop-holds c =
+loop-k-init c =
     let s = c.before.before in
     let a = s.args in
     let o = a.out.now in
@@ -157,52 +157,52 @@ loop-holds c =
       packed_as (sym (append-nil (take a.start o))) refl (packed_start o a.start a.first s.requires.2 (omega (arith, inside, length-take-le a.last o s.requires.3, s.requires.3))),
     )
 
-slice-reshare-prefix-entry-at : tie.Need-slice-reshare-prefix-entry-at invariant-loop decreases-loop
-slice-reshare-prefix-entry-at c = omega (arith, (now_packed c).long, (begin c).requires.3)
+slice_bounds-entry_at-end : tie.Need-slice_bounds-entry_at-end invariant-loop-k decreases-loop-k
+slice_bounds-entry_at-end c = omega (arith, (now_packed c).long, (begin c).requires.3)
 
-slice-aggregate-entry-at : tie.Need-slice-aggregate-entry-at invariant-loop decreases-loop
-slice-aggregate-entry-at c = sym (front_long c.before)
+slice_bounds-entry_at-end-in-loop-k : tie.Need-slice_bounds-entry_at-end-in-loop-k invariant-loop-k decreases-loop-k
+slice_bounds-entry_at-end-in-loop-k c = sym (front_long c)
 
-entry-at-requires : tie.Need-entry-at-requires invariant-loop decreases-loop
-entry-at-requires c κs =
-    let t = c.before in
+entry_at-e-requires : tie.Need-entry_at-e-requires invariant-loop-k decreases-loop-k
+entry_at-e-requires c κs =
+    let t = c in
     (omega (arith, room t, here t, front_long t), omega (arith, front_long t, f_long t, (begin t).requires.0.short))
 
-next-is-requires : tie.Need-next-is-requires invariant-loop decreases-loop
-next-is-requires c κs = search rules
+next_is-named-requires : tie.Need-next_is-named-requires invariant-loop-k decreases-loop-k
+next_is-named-requires c κs = search rules
 
-put-kept-requires : tie.Need-put-kept-requires invariant-loop decreases-loop
-put-kept-requires c κs =
+put_kept-to-requires : tie.Need-put_kept-to-requires invariant-loop-k decreases-loop-k
+put_kept-to-requires c κs =
     let e = c.before.before in
     let t = turn e in (
       omega (arith, (now_packed t).behind, written_long t),
       omega (arith, long_enough t, end_is e, here t),
-      omega (arith, end_inside t, end_is e, (now_packed t).long, (begin t).pre.3),
+      omega (arith, end_inside t, end_is e, (now_packed t).long, (begin t).requires.3),
       omega (arith, number_is e, few t),
-      subst (Counted (begin t).args.before.now (table t)) (sym (number_is e)) ((begin t).pre.4 (k t) t.loop-test.taken),
+      subst (Counted (begin t).args.before.now (table t)) (sym (number_is e)) ((begin t).requires.4 (k t) t.loop-k-test.true),
     )
 
-step-requires : tie.Need-step-requires invariant-loop decreases-loop
-step-requires c κs =
+step-j-requires : tie.Need-step-j-requires invariant-loop-k decreases-loop-k
+step-j-requires c κs =
     let t = turn c.before.before.before.before.before in
-    omega (arith, small t, t.before.loop.invariant.3)
+    omega (arith, small t, t.loop-k.invariant.3)
 
-add-k : tie.Need-overflow-add-k invariant-loop decreases-loop
-add-k c = search rules
+overflow_add-k : tie.Need-overflow_add-k invariant-loop-k decreases-loop-k
+overflow_add-k c = search rules
 
-loop-less : tie.Need-loop-smaller invariant-loop decreases-loop
-loop-less c = search rules
+loop-k-smaller : tie.Need-loop-k-smaller invariant-loop-k decreases-loop-k
+loop-k-smaller c = search rules
 
-loop-again : tie.Need-loop-preserved invariant-loop decreases-loop
-loop-again c =
+loop-k-preserved : tie.Need-loop-k-preserved invariant-loop-k decreases-loop-k
+loop-k-preserved c =
     let p = c.before.before.before in
     let n = p.before.before in
     let e = n.before in
     let t = turn e in
-    let l = t.before.loop in
-    let so : has (dropped t) (k t) ≡ n.next-is.result = (next t).0 ∙ sym n.next-is.ensures in
-    let stepped : c.step.result ≡ (if n.next-is.result then l.j + 1 else l.j) = c.step.ensures in
-    let part : record_part n.next-is.result (bits_below (table t) e.entry_at.result.header) (take (e.entry_at.result.end - (l.from + 2)) (drop (l.from + 2) l.out))
+    let l = t.loop-k in
+    let so : has (dropped t) (k t) ≡ n.next_is-named.result = (next t).0 ∙ sym n.next_is-named.ensures in
+    let stepped : c.step-j.result ≡ (if n.next_is-named.result then l.j + 1 else l.j) = c.step-j.ensures in
+    let part : record_part n.next_is-named.result (bits_below (table t) e.entry_at-e.result.header) (take (e.entry_at-e.result.end - (l.from + 2)) (drop (l.from + 2) l.out))
     ≡ record_part (has (dropped t) (k t)) (bits_below (table t) (number_of (f t) (first t) (k t))) (body t) =
     (λ i. record_part (sym so i) (bits_below (table t) (number_is e i)) (take (end_is e i - (here t i + 2)) (drop (here t i + 2) l.out)))
     ∙ ap (record_part (has (dropped t) (k t)) (bits_below (table t) (number_of (f t) (first t) (k t)))) (body_same t) in
@@ -211,21 +211,21 @@ loop-again c =
     let short = record_short (has (dropped t) (k t)) (bits_below (table t) (number_of (f t) (first t) (k t))) (body t) in (
       omega arith,
       end_is e,
-      subst (λ (j : ℕ). Beside (dropped t) (begin t).args.records j (k t + 1)) (sym (stepped ∙ ap (λ (b : Bool). if b then l.j + 1 else l.j) n.next-is.ensures)) (next t).1,
-      at_most l.j (k t) n.next-is.result c.step.result stepped l.invariant.3,
-      p.put-kept.ensures.0 ∙ omega (arith, ap length part, l.invariant.4, ap length more, length-append (kept t) own),
+      subst (λ (j : ℕ). Beside (dropped t) (begin t).args.records j (k t + 1)) (sym (stepped ∙ ap (λ (b : Bool). if b then l.j + 1 else l.j) n.next_is-named.ensures)) (next t).1,
+      at_most l.j (k t) n.next_is-named.result c.step-j.result stepped l.invariant.3,
+      p.put_kept-to.ensures.0 ∙ omega (arith, ap length part, l.invariant.4, ap length more, length-append (kept t) own),
       packed_as (append_assoc (take (begin t).args.start (out₀ t)) (kept t) own ∙ ap (λ (X : Bytes). take (begin t).args.start (out₀ t) ++ X) (sym more)) refl
-          (packed_more (now_packed t) l.to (sym (written_long t)) own e.entry_at.result.end (omega (arith, end_is e, here t, long_enough t))
-          (omega (arith, short, body_long t, (now_packed t).behind, written_long t, end_is e, here t, long_enough t)) (omega (arith, end_is e, end_inside t, (begin t).pre.3)) p.put-kept.new.0
-          (p.put-kept.ensures.1 ∙ ap (λ (X : Bytes). placed l.to X l.out) part)),
+          (packed_more (now_packed t) l.to (sym (written_long t)) own e.entry_at-e.result.end (omega (arith, end_is e, here t, long_enough t))
+          (omega (arith, short, body_long t, (now_packed t).behind, written_long t, end_is e, here t, long_enough t)) (omega (arith, end_is e, end_inside t, (begin t).requires.3)) p.put_kept-to.new.out
+          (p.put_kept-to.ensures.1 ∙ ap (λ (X : Bytes). placed l.to X l.out) part)),
     )
 
-same_length : tie.Need-same-length invariant-loop decreases-loop
-same_length c = c.before.loop.invariant.5.long
+shape_of-out : tie.Need-shape_of-out invariant-loop-k decreases-loop-k
+shape_of-out c = c.loop-k.invariant.5.long
 
-returns : tie.Need-returns invariant-loop decreases-loop
+returns : tie.Need-returns invariant-loop-k decreases-loop-k
 returns c =
-    let l = c.before.loop in
+    let l = c.loop-k in
     let s = c.before.before.before.before in
     let a = s.args in
     let o = a.out.now in
@@ -239,17 +239,17 @@ pub pack_records_spec : {M : Type 1} → statement M
 pack_records_spec =
     tie.close
     (tie.spec
-    invariant-loop
-    decreases-loop
-    loop-holds
-    slice-reshare-prefix-entry-at
-    slice-aggregate-entry-at
-    entry-at-requires
-    next-is-requires
-    put-kept-requires
-    step-requires
-    add-k
-    loop-less
-    loop-again
-    same_length
+    invariant-loop-k
+    decreases-loop-k
+    loop-k-init
+    slice_bounds-entry_at-end
+    slice_bounds-entry_at-end-in-loop-k
+    entry_at-e-requires
+    next_is-named-requires
+    put_kept-to-requires
+    step-j-requires
+    overflow_add-k
+    loop-k-smaller
+    loop-k-preserved
+    shape_of-out
     returns)

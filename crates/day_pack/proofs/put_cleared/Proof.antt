@@ -12,7 +12,7 @@ use Rattle.day_pack.proofs.Clears as clears
 use Rattle.day_pack.proofs.put_cleared.Statement.{statement}
 use Rattle.day_pack.proofs.put_cleared.Tie as tie
 
-module _ (c : tie.After-shared-slice-known) where
+module _ (c : tie.After-shared_slice_known-1) where
   abbrev start : tie.Start
   start = c.before.before
 
@@ -22,43 +22,43 @@ module _ (c : tie.After-shared-slice-known) where
   abbrev b : Begun
   b = record {
     buffer = B;
-    low = below_of 256 B (λ i p. omega (arith, c.before.slice-known.given i));
+    low = below_of 256 B (λ i p. omega (arith, c.slice_known-1.given i));
     size = start.args.size;
     headers = start.args.headers;
     records = start.args.records;
     first = start.args.first;
     dropped = start.args.dropped.now;
-    clearable = start.pre;
+    clearable = start.requires;
   }
 
   last_inside : last_of b ≤ length B
-  last_inside = omega (arith, start.pre.inside)
+  last_inside = omega (arith, start.requires.inside)
 
-sub-last : tie.Need-overflow-sub-last
-sub-last c = omega (arith, clears.size_is (b c))
+overflow_sub-last : tie.Need-overflow_sub-last
+overflow_sub-last c = omega (arith, clears.size_is (b c))
 
-mul-last : tie.Need-overflow-mul-last
-mul-last c = omega (arith, clears.size_is (b c), clears.size_short (b c))
+overflow_mul-last : tie.Need-overflow_mul-last
+overflow_mul-last c = omega (arith, clears.size_is (b c), clears.size_short (b c))
 
-sub-last-2 : tie.Need-overflow-sub-last-2
-sub-last-2 c = omega (arith, clears.size_is (b c))
+overflow_sub-last-2 : tie.Need-overflow_sub-last-2
+overflow_sub-last-2 c = omega (arith, clears.size_is (b c))
 
-slice-reshare-prefix-mark-kept : tie.Need-slice-reshare-prefix-mark-kept
-slice-reshare-prefix-mark-kept c = search rules
+slice_bounds-mark_kept-end : tie.Need-slice_bounds-mark_kept-end
+slice_bounds-mark_kept-end c = search rules
 
-slice-aggregate-mark-kept : tie.Need-slice-aggregate-mark-kept
-slice-aggregate-mark-kept c = let k = c.before in sym (length-take-le (last_of (b k)) (B k) (last_inside k))
+slice_bounds-mark_kept-end-2 : tie.Need-slice_bounds-mark_kept-end-2
+slice_bounds-mark_kept-end-2 c = let k = c in sym (length-take-le (last_of (b k)) (B k) (last_inside k))
 
-mark-kept-requires : tie.Need-mark-kept-requires
-mark-kept-requires c κs = let k = c.before.before in (clears.marks_ready (b k), (start k).requires.rises, refl)
+mark_kept-kept-requires : tie.Need-mark_kept-kept-requires
+mark_kept-kept-requires c κs = let k = c.before in (clears.marks_ready (b k), (start k).requires.rises, refl)
 
-put-marked-requires : tie.Need-put-marked-requires
-put-marked-requires c κs =
+put_marked-requires : tie.Need-put_marked-requires
+put_marked-requires c κs =
     let marked = c.before.before in
-    ((start marked.before.before.before).pre, marked.mark-kept.ensures.1, marked.mark-kept.ensures.0)
+    ((start marked.before.before).requires, marked.mark_kept-kept.ensures.1, marked.mark_kept-kept.ensures.0)
 
-same_length : tie.Need-same-length
-same_length c = search rules
+shape_of-out : tie.Need-shape_of-out
+shape_of-out c = search rules
 
 returns : tie.Need-returns
 returns c = search rules
@@ -67,12 +67,12 @@ pub put_cleared_spec : {M : Type 1} → statement M
 put_cleared_spec =
     tie.close
     (tie.spec
-    sub-last
-    mul-last
-    sub-last-2
-    slice-reshare-prefix-mark-kept
-    slice-aggregate-mark-kept
-    mark-kept-requires
-    put-marked-requires
-    same_length
+    overflow_sub-last
+    overflow_mul-last
+    overflow_sub-last-2
+    slice_bounds-mark_kept-end
+    slice_bounds-mark_kept-end-2
+    mark_kept-kept-requires
+    put_marked-requires
+    shape_of-out
     returns)

@@ -15,45 +15,45 @@ use borrow.Author.Rules.{rules}
 use Rattle.day_pack.proofs.put_kept.Statement.{statement}
 use Rattle.day_pack.proofs.put_kept.Tie as tie
 
-returns : tie.Need-returns
-returns c =
-    let a = c.before.before.args in
+returns-then-dropped : tie.Need-returns-then-dropped
+returns-then-dropped c =
+    let a = c.args in
     let X : Bytes = take (a.end - (a.from + 2)) (drop (a.from + 2) a.out.now) in
-    let is : record_part a.dropped (bits_below a.table.now a.number) X ≡ [] = ap (λ (b : Bool). record_part b (bits_below a.table.now a.number) X) c.if1.true in
+    let is : record_part a.dropped (bits_below a.table.now a.number) X ≡ [] = ap (λ (b : Bool). record_part b (bits_below a.table.now a.number) X) c.if-dropped.true in
     (omega (arith, ap length is), placed_none a.to _ a.out.now is)
 
-count-requires : tie.Need-count-requires
-count-requires c κs = let s = c.before.before in (s.requires.3, s.requires.4)
+count-n-requires : tie.Need-count-n-requires
+count-n-requires c κs = let s = c.before.before in (s.requires.3, s.requires.4)
 
-put-two-requires : tie.Need-put-two-requires
-put-two-requires c κs = search rules
+put_two-requires : tie.Need-put_two-requires
+put_two-requires c κs = search rules
 
-add-move-left : tie.Need-overflow-add-move-left
-add-move-left c = search rules
+overflow_add-to : tie.Need-overflow_add-to
+overflow_add-to c = search rules
 
-add-move-left-2 : tie.Need-overflow-add-move-left-2
-add-move-left-2 c = search rules
+overflow_add-from : tie.Need-overflow_add-from
+overflow_add-from c = search rules
 
-add-move-left-3 : tie.Need-overflow-add-move-left-3
-add-move-left-3 c = search rules
+overflow_add-from-2 : tie.Need-overflow_add-from-2
+overflow_add-from-2 c = search rules
 
-sub-move-left : tie.Need-overflow-sub-move-left
-sub-move-left c = search rules
+overflow_sub-end : tie.Need-overflow_sub-end
+overflow_sub-end c = search rules
 
-move-left-requires : tie.Need-move-left-requires
-move-left-requires c κs = search rules
+move_left-requires : tie.Need-move_left-requires
+move_left-requires c κs = search rules
 
-sub-result : tie.Need-overflow-sub-result
-sub-result c = search rules
+overflow_sub-result : tie.Need-overflow_sub-result
+overflow_sub-result c = search rules
 
-add-result : tie.Need-overflow-add-result
-add-result c = search rules
+overflow_add-result : tie.Need-overflow_add-result
+overflow_add-result c = search rules
 
-same_length : tie.Need-same-length
-same_length c = search rules
+shape_of-out : tie.Need-shape_of-out
+shape_of-out c = search rules
 
-returns-2 : tie.Need-returns-2
-returns-2 c =
+returns : tie.Need-returns
+returns c =
     let m = c.before.before in
     let p = m.before.before.before.before in
     let n = p.before.before in
@@ -62,24 +62,24 @@ returns-2 c =
     let a = s.args in
     let X : Bytes = take (a.end - (a.from + 2)) (drop (a.from + 2) a.out.now) in
     let number = bits_below a.table.now a.number in
-    let is : digits 256 2 number ++ X ≡ record_part a.dropped number X = ap (λ (b : Bool). record_part b number X) (sym e.if1.false) in
-    let put = kept_put a.out.now p.put_two.new.0 m.move-left.new.0 a.to a.from a.end n.count.result number s.requires.0 s.requires.1 s.requires.2 n.count.ensures p.put_two.ensures m.move-left.ensures in
-    let long = kept_long a.out.now p.put_two.new.0 m.move-left.new.0 a.to a.from a.end n.count.result number s.requires.0 s.requires.1 s.requires.2 n.count.ensures p.put_two.ensures m.move-left.ensures in
+    let is : digits 256 2 number ++ X ≡ record_part a.dropped number X = ap (λ (b : Bool). record_part b number X) (sym e.if-dropped.false) in
+    let put = kept_put a.out.now p.put_two.new.out m.move_left.new.out a.to a.from a.end n.count-n.result number s.requires.0 s.requires.1 s.requires.2 n.count-n.ensures p.put_two.ensures m.move_left.ensures in
+    let long = kept_long a.out.now p.put_two.new.out m.move_left.new.out a.to a.from a.end n.count-n.result number s.requires.0 s.requires.1 s.requires.2 n.count-n.ensures p.put_two.ensures m.move_left.ensures in
     (long ∙ ap (λ (w : Bytes). a.to + length w) is, put ∙ ap (λ (w : Bytes). placed a.to w a.out.now) is)
 
 pub put_kept_spec : {M : Type 1} → statement M
 put_kept_spec =
     tie.close
     (tie.spec
-    returns
-    count-requires
-    put-two-requires
-    add-move-left
-    add-move-left-2
-    add-move-left-3
-    sub-move-left
-    move-left-requires
-    sub-result
-    add-result
-    same_length
-    returns-2)
+    returns-then-dropped
+    count-n-requires
+    put_two-requires
+    overflow_add-to
+    overflow_add-from
+    overflow_add-from-2
+    overflow_sub-end
+    move_left-requires
+    overflow_sub-result
+    overflow_add-result
+    shape_of-out
+    returns)

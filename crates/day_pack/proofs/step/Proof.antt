@@ -7,14 +7,17 @@ use borrow.Author.Rules.{rules}
 use Rattle.day_pack.proofs.step.Statement.{statement}
 use Rattle.day_pack.proofs.step.Tie as tie
 
-add-result : tie.Need-overflow-add-result
-add-result c = search rules
+overflow_add-result : tie.Need-overflow_add-result
+overflow_add-result c = search rules
+
+returns-then-so : tie.Need-returns-then-so
+returns-then-so c = let n = c.args.n in ap (λ (b : Bool). if b then n + 1 else n) (sym c.if-so.true)
 
 returns : tie.Need-returns
-returns c = let n = c.before.args.n in ap (λ (b : Bool). if b then n + 1 else n) (sym c.if1.true)
-
-returns-2 : tie.Need-returns-2
-returns-2 c = search rules
+returns c = search rules
 
 pub step_spec : {M : Type 1} → statement M
-step_spec = tie.close (tie.spec add-result returns returns-2)
+step_spec = tie.close (tie.spec
+    overflow_add-result
+    returns-then-so
+    returns)

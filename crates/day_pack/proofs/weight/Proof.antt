@@ -4,11 +4,13 @@ use borrow.Author.Rules.{rules}
 use Rattle.day_pack.proofs.weight.Statement.{statement}
 use Rattle.day_pack.proofs.weight.Tie as tie
 
-array-read-result : tie.Need-array-read-result
-array-read-result c = search rules
+bounds-i : tie.Need-bounds-i
+bounds-i c = search rules
 
 returns : tie.Need-returns
 returns c = (weight_is c.args.i c.requires, weight_some c.args.i c.requires)
 
 pub weight_spec : {M : Type 1} → statement M
-weight_spec = tie.close (tie.spec array-read-result returns)
+weight_spec = tie.close (tie.spec
+    bounds-i
+    returns)

@@ -9,48 +9,48 @@ use Rattle.day_place.proofs.Moved.{left_more, left_all}
 use Rattle.day_place.proofs.move_left.Statement.{statement}
 use Rattle.day_place.proofs.move_left.Tie as tie
 
-abbrev invariant-loop : tie.invariant-loop
-invariant-loop out₀ to from n i₀ out i = (i ≤ n) × (length out ≡ length out₀) × (out ≡ paste out₀ to (take n (drop from out₀)) i)
+abbrev invariant-loop-i : tie.invariant-loop-i
+invariant-loop-i out₀ to from n i₀ out i = (i ≤ n) × (length out ≡ length out₀) × (out ≡ paste out₀ to (take n (drop from out₀)) i)
 
-abbrev decreases-loop : tie.decreases-loop
-decreases-loop out₀ to from n i₀ out i = n - i
+abbrev decreases-loop-i : tie.decreases-loop-i
+decreases-loop-i out₀ to from n i₀ out i = n - i
 
-loop-holds : tie.Need-loop-init invariant-loop decreases-loop
-loop-holds c =
+loop-i-init : tie.Need-loop-i-init invariant-loop-i decreases-loop-i
+loop-i-init c =
     let a = c.args in
     (omega arith, refl, paste-zero a.out.now a.to (take a.n (drop a.from a.out.now)))
 
-add-out : tie.Need-overflow-add-out invariant-loop decreases-loop
-add-out c = search rules
+overflow_add-out : tie.Need-overflow_add-out invariant-loop-i decreases-loop-i
+overflow_add-out c = search rules
 
-slice-read-out : tie.Need-slice-read-out invariant-loop decreases-loop
-slice-read-out c = omega (arith, c.before.before.loop.invariant.1)
+bounds-out-from : tie.Need-bounds-out-from invariant-loop-i decreases-loop-i
+bounds-out-from c = omega (arith, c.loop-i.invariant.1)
 
-add-out-2 : tie.Need-overflow-add-out-2 invariant-loop decreases-loop
-add-out-2 c = search rules
+overflow_add-out-in-loop-i : tie.Need-overflow_add-out-in-loop-i invariant-loop-i decreases-loop-i
+overflow_add-out-in-loop-i c = search rules
 
-slice-write-out : tie.Need-slice-write-out invariant-loop decreases-loop
-slice-write-out c = omega (arith, c.before.before.loop.invariant.1)
+bounds-out-to : tie.Need-bounds-out-to invariant-loop-i decreases-loop-i
+bounds-out-to c = omega (arith, c.loop-i.invariant.1)
 
-add-i : tie.Need-overflow-add-i invariant-loop decreases-loop
-add-i c = search rules
+overflow_add-i : tie.Need-overflow_add-i invariant-loop-i decreases-loop-i
+overflow_add-i c = search rules
 
-loop-less : tie.Need-loop-smaller invariant-loop decreases-loop
-loop-less c = search rules
+loop-i-smaller : tie.Need-loop-i-smaller invariant-loop-i decreases-loop-i
+loop-i-smaller c = search rules
 
-loop-again : tie.Need-loop-preserved invariant-loop decreases-loop
-loop-again c =
-    let l = c.before.before.loop in
+loop-i-preserved : tie.Need-loop-i-preserved invariant-loop-i decreases-loop-i
+loop-i-preserved c =
+    let l = c.loop-i in
     let s = c.before.before.before in
     let a = s.args in
-    (omega arith, simp length-set l.invariant.1, left_more a.out.now a.to a.from a.n s.requires.0 s.requires.1 l.out l.i c.before.loop-test.true l.invariant.2)
+    (omega arith, simp length-set l.invariant.1, left_more a.out.now a.to a.from a.n s.requires.0 s.requires.1 l.out l.i c.loop-i-test.true l.invariant.2)
 
-same_length : tie.Need-same-length invariant-loop decreases-loop
-same_length c = c.before.loop.invariant.1
+shape_of-out : tie.Need-shape_of-out invariant-loop-i decreases-loop-i
+shape_of-out c = c.loop-i.invariant.1
 
-returns : tie.Need-returns invariant-loop decreases-loop
+returns : tie.Need-returns invariant-loop-i decreases-loop-i
 returns c =
-    let l = c.before.loop in
+    let l = c.loop-i in
     let s = c.before.before in
     let a = s.args in
     left_all a.out.now a.to a.from a.n s.requires.0 s.requires.1 l.out l.i (omega arith) l.invariant.2
@@ -59,15 +59,15 @@ pub move_left_spec : {M : Type 1} → statement M
 move_left_spec =
     tie.close
     (tie.spec
-    invariant-loop
-    decreases-loop
-    loop-holds
-    add-out
-    slice-read-out
-    add-out-2
-    slice-write-out
-    add-i
-    loop-less
-    loop-again
-    same_length
+    invariant-loop-i
+    decreases-loop-i
+    loop-i-init
+    overflow_add-out
+    bounds-out-from
+    overflow_add-out-in-loop-i
+    bounds-out-to
+    overflow_add-i
+    loop-i-smaller
+    loop-i-preserved
+    shape_of-out
     returns)

@@ -15,20 +15,20 @@ use borrow.Author.Rules.{rules}
 use Rattle.day_place.proofs.put_index.Statement.{statement}
 use Rattle.day_place.proofs.put_index.Tie as tie
 
-abbrev listed : tie.After-put-four → tie.After-put-places
+abbrev listed : tie.After-put_four → tie.After-put_places
 listed c = c.before.before.before.before
 
-abbrev start : tie.After-put-places → tie.Start
+abbrev start : tie.After-put_places → tie.Start
 start c = c.before.before.before
 
-put-places-requires : tie.Need-put-places-requires
-put-places-requires c κs = search rules
+put_places-requires : tie.Need-put_places-requires
+put_places-requires c κs = search rules
 
-put-four-requires : tie.Need-put-four-requires
-put-four-requires c κs = search rules
+put_four-requires : tie.Need-put_four-requires
+put_four-requires c κs = search rules
 
-same_length : tie.Need-same-length
-same_length c = search rules
+shape_of-out : tie.Need-shape_of-out
+shape_of-out c = search rules
 
 returns : tie.Need-returns
 returns c =
@@ -40,8 +40,12 @@ returns c =
     let four : length count ≡ 4 = length_digits 256 4 a.records in
     let many : length (write_places places) ≡ 4 * a.records = places_long places ∙ ap (λ (n : ℕ). 4 * n) (places_count (take a.at a.out.now) a.first a.records) in
     put.put_four.ensures
-    ∙ ap (placed a.at count) ((listed put).put-places.ensures ∙ ap (λ (n : ℕ). placed (a.at + n) (write_places places) a.out.now) (sym four))
-    ∙ placed_front a.at count (write_places places) a.out.now (omega (arith, four, many, s.pre.1))
+    ∙ ap (placed a.at count) ((listed put).put_places.ensures ∙ ap (λ (n : ℕ). placed (a.at + n) (write_places places) a.out.now) (sym four))
+    ∙ placed_front a.at count (write_places places) a.out.now (omega (arith, four, many, s.requires.1))
 
 pub put_index_spec : {M : Type 1} → statement M
-put_index_spec = tie.close (tie.spec put-places-requires put-four-requires same_length returns)
+put_index_spec = tie.close (tie.spec
+    put_places-requires
+    put_four-requires
+    shape_of-out
+    returns)

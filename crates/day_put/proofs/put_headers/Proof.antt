@@ -17,20 +17,20 @@ use Rattle.day_put.proofs.Puts.{Put, put_none, put_more, put_all, header_next, h
 use Rattle.day_put.proofs.put_headers.Statement.{statement}
 use Rattle.day_put.proofs.put_headers.Tie as tie
 
-abbrev invariant-loop : tie.invariant-loop
-invariant-loop lengths headers out₀ start at₀ from₀ i₀ out at from i =
+abbrev invariant-loop-i : tie.invariant-loop-i
+invariant-loop-i lengths headers out₀ start at₀ from₀ i₀ out at from i =
     Put (headers_written (headers_of lengths headers)) (headers_written (headers_from lengths headers i from)) start at out₀ out
     × (present (headers_from lengths headers i from) ≡ true) × (from ≤ length headers) × (i ≤ length lengths)
     × (at + 2 * (length lengths - i) + (length headers - from) ≤ length out₀)
 
-abbrev decreases-loop : tie.decreases-loop
-decreases-loop lengths headers out₀ start at₀ from₀ i₀ out at from i = length lengths - i
+abbrev decreases-loop-i : tie.decreases-loop-i
+decreases-loop-i lengths headers out₀ start at₀ from₀ i₀ out at from i = length lengths - i
 
-abbrev begun : tie.At-loop invariant-loop decreases-loop → tie.Start invariant-loop decreases-loop
+abbrev begun : tie.At-loop-i invariant-loop-i decreases-loop-i → tie.Start invariant-loop-i decreases-loop-i
 begun c = c.before.before.before.before
 
 -- the header that is next
-module _ (c : tie.In-loop invariant-loop decreases-loop) where
+module _ (c : tie.In-loop-i invariant-loop-i decreases-loop-i) where
   abbrev lengths : List ℕ
   lengths = (begun c.before).args.lengths.now
 
@@ -38,10 +38,10 @@ module _ (c : tie.In-loop invariant-loop decreases-loop) where
   headers = (begun c.before).args.headers.now
 
   abbrev from : ℕ
-  from = c.before.loop.from
+  from = c.loop-i.from
 
   abbrev i : ℕ
-  i = c.before.loop.i
+  i = c.loop-i.i
 
   abbrev n : ℕ
   n = get_or lengths i 0
@@ -49,7 +49,7 @@ module _ (c : tie.In-loop invariant-loop decreases-loop) where
   next : (from + n ≤ length headers)
       × (headers_written (headers_from lengths headers i from) ≡ write_strings (take n (drop from headers) ∷ []) ++ headers_written (headers_from lengths headers (i + 1) (from + n)))
       × (present (headers_from lengths headers (i + 1) (from + n)) ≡ true)
-  next = header_next lengths headers i from (omega arith) c.before.loop.invariant.2 c.before.loop.invariant.1
+  next = header_next lengths headers i from (omega arith) c.loop-i.invariant.2 c.loop-i.invariant.1
 
   part_is : take (from + n - from) (drop from headers) ≡ take n (drop from headers)
   part_is = let own : from + n - from ≡ n = omega arith in ap (λ (k : ℕ). take k (drop from headers)) own
@@ -57,86 +57,86 @@ module _ (c : tie.In-loop invariant-loop decreases-loop) where
   part_long : length (take (from + n - from) (drop from headers)) ≡ n
   part_long = ap length part_is ∙ length-take-le n (drop from headers) (omega (arith, length-drop from headers, next.0))
 
-abbrev looped : tie.After-put-arg2 invariant-loop decreases-loop → tie.In-loop invariant-loop decreases-loop
+abbrev looped : tie.After-put-arg-in-loop-i-1 invariant-loop-i decreases-loop-i → tie.In-loop-i invariant-loop-i decreases-loop-i
 looped c = c.before.before.before
 
-loop-holds : tie.Need-loop-init invariant-loop decreases-loop
-loop-holds c =
+loop-i-init : tie.Need-loop-i-init invariant-loop-i decreases-loop-i
+loop-i-init c =
     let s = c.before.before.before in
     let a = s.args in
     (put_none (headers_written (headers_of a.lengths.now a.headers.now)) a.start a.out.now, s.requires.0, omega arith, omega arith, omega (arith, s.requires.1))
 
-mul-to : tie.Need-overflow-mul-to invariant-loop decreases-loop
-mul-to c = search rules
+offset_bounds-lengths-i : tie.Need-offset_bounds-lengths-i invariant-loop-i decreases-loop-i
+offset_bounds-lengths-i c = search rules
 
-shared-slice-read-to : tie.Need-shared-slice-read-to invariant-loop decreases-loop
-shared-slice-read-to c = search rules
+bounds-lengths-i : tie.Need-bounds-lengths-i invariant-loop-i decreases-loop-i
+bounds-lengths-i c = search rules
 
-add-to : tie.Need-overflow-add-to invariant-loop decreases-loop
-add-to c = omega (arith, (next c.before).0)
+overflow_add-to : tie.Need-overflow_add-to invariant-loop-i decreases-loop-i
+overflow_add-to c = omega (arith, (next c.before).0)
 
-sub-put : tie.Need-overflow-sub-put invariant-loop decreases-loop
-sub-put c = search rules
+slice_bounds-put-count : tie.Need-slice_bounds-put-count invariant-loop-i decreases-loop-i
+slice_bounds-put-count c = search rules
 
-part-put-start : tie.Need-slice-bounds-put-start invariant-loop decreases-loop
-part-put-start c = search rules
+slice_bounds-put-start : tie.Need-slice_bounds-put-start invariant-loop-i decreases-loop-i
+slice_bounds-put-start c = search rules
 
-part-put-end : tie.Need-slice-bounds-put-end invariant-loop decreases-loop
-part-put-end c = (next c.before.before).0
+slice_bounds-put-end : tie.Need-slice_bounds-put-end invariant-loop-i decreases-loop-i
+slice_bounds-put-end c = (next c.before.before).0
 
-put-requires : tie.Need-put-requires invariant-loop decreases-loop
-put-requires c κs =
+put-at-requires : tie.Need-put-at-requires invariant-loop-i decreases-loop-i
+put-at-requires c κs =
     let l = looped c in
-    omega (arith, part_long l, l.before.loop.invariant.4, (next l).0, l.before.loop.invariant.0.kept)
+    omega (arith, part_long l, l.loop-i.invariant.4, (next l).0, l.loop-i.invariant.0.kept)
 
-add-i : tie.Need-overflow-add-i invariant-loop decreases-loop
-add-i c = search rules
+overflow_add-i : tie.Need-overflow_add-i invariant-loop-i decreases-loop-i
+overflow_add-i c = search rules
 
-loop-less : tie.Need-loop-smaller invariant-loop decreases-loop
-loop-less c = search rules
+loop-i-smaller : tie.Need-loop-i-smaller invariant-loop-i decreases-loop-i
+loop-i-smaller c = search rules
 
-loop-again : tie.Need-loop-preserved invariant-loop decreases-loop
-loop-again c =
+loop-i-preserved : tie.Need-loop-i-preserved invariant-loop-i decreases-loop-i
+loop-i-preserved c =
     let p = c.before.before in
     let l = looped p.before in
-    let inv = l.before.loop.invariant in
+    let inv = l.loop-i.invariant in
     let part = take (from l + n l - from l) (drop (from l) (headers l)) in
     let whole = write_strings (part ∷ []) in
     let size : length whole ≡ 2 + n l = one_long part ∙ ap (λ (k : ℕ). 2 + k) (part_long l) in (
-      put_more whole (headers_written (headers_from (lengths l) (headers l) (i l + 1) (from l + n l))) p.put.new.0 p.put.result inv.0
+      put_more whole (headers_written (headers_from (lengths l) (headers l) (i l + 1) (from l + n l))) p.put-at.new.out p.put-at.result inv.0
           ((next l).1 ∙ ap (λ (s : Bytes). write_strings (s ∷ []) ++ headers_written (headers_from (lengths l) (headers l) (i l + 1) (from l + n l))) (sym (part_is l)))
-          p.put.ensures.1 p.put.ensures.0 (omega (arith, p.put.ensures.0, size, inv.4, (next l).0)) p.put.auto.0,
+          p.put-at.ensures.1 p.put-at.ensures.0 (omega (arith, p.put-at.ensures.0, size, inv.4, (next l).0)) p.put-at.auto.out,
       (next l).2,
       (next l).0,
       omega arith,
-      omega (arith, p.put.ensures.0, size, inv.4, (next l).0),
+      omega (arith, p.put-at.ensures.0, size, inv.4, (next l).0),
     )
 
-same_length : tie.Need-same-length invariant-loop decreases-loop
-same_length c = c.before.loop.invariant.0.kept
+shape_of-out : tie.Need-shape_of-out invariant-loop-i decreases-loop-i
+shape_of-out c = c.loop-i.invariant.0.kept
 
-returns : tie.Need-returns invariant-loop decreases-loop
+returns : tie.Need-returns invariant-loop-i decreases-loop-i
 returns c =
-    let l = c.before.loop in
+    let l = c.loop-i in
     let a = (begun c.before).args in
-    put_all l.invariant.0 (headers_done a.lengths.now a.headers.now l.i l.from c.loop-test.false)
+    put_all l.invariant.0 (headers_done a.lengths.now a.headers.now l.i l.from c.loop-i-test.false)
 
 pub put_headers_spec : {M : Type 1} → statement M
 put_headers_spec =
     tie.close
     (tie.spec
-    invariant-loop
-    decreases-loop
-    loop-holds
-    mul-to
-    shared-slice-read-to
-    add-to
-    sub-put
-    part-put-start
-    part-put-end
-    put-requires
-    add-i
-    loop-less
-    loop-again
-    same_length
+    invariant-loop-i
+    decreases-loop-i
+    loop-i-init
+    offset_bounds-lengths-i
+    bounds-lengths-i
+    overflow_add-to
+    slice_bounds-put-count
+    slice_bounds-put-start
+    slice_bounds-put-end
+    put-at-requires
+    overflow_add-i
+    loop-i-smaller
+    loop-i-preserved
+    shape_of-out
     returns)

@@ -13,64 +13,64 @@ use Rattle.day_put.proofs.Puts.{Put, put_none, put_more, put_all, place_next, pl
 use Rattle.day_put.proofs.put_places.Statement.{statement}
 use Rattle.day_put.proofs.put_places.Tie as tie
 
-abbrev invariant-loop : tie.invariant-loop
-invariant-loop sizes first out₀ start place₀ i₀ out place i =
+abbrev invariant-loop-i : tie.invariant-loop-i
+invariant-loop-i sizes first out₀ start place₀ i₀ out place i =
     (i ≤ length sizes) × (place + total (drop i sizes) ≤ 65536)
     × ((at : ℕ) × (at ≡ start + 4 * i) × Put (write_places (places_by first sizes)) (write_places (places_by place (drop i sizes))) start at out₀ out)
 
-abbrev decreases-loop : tie.decreases-loop
-decreases-loop sizes first out₀ start place₀ i₀ out place i = length sizes - i
+abbrev decreases-loop-i : tie.decreases-loop-i
+decreases-loop-i sizes first out₀ start place₀ i₀ out place i = length sizes - i
 
-abbrev begun : tie.At-loop invariant-loop decreases-loop → tie.Start invariant-loop decreases-loop
+abbrev begun : tie.At-loop-i invariant-loop-i decreases-loop-i → tie.Start invariant-loop-i decreases-loop-i
 begun c = c.before.before.before
 
 -- the room for the entries
-space : (c : tie.In-loop invariant-loop decreases-loop) → (begun c.before).args.start + 4 * c.before.loop.i + 4 ≤ length (begun c.before).args.out.now
-space c = omega (arith, (begun c.before).pre.1)
+space : (c : tie.In-loop-i invariant-loop-i decreases-loop-i) → (begun c.before).args.start + 4 * c.loop-i.i + 4 ≤ length (begun c.before).args.out.now
+space c = omega (arith, (begun c.before).requires.1)
 
 -- the record that is next
-past : (c : tie.In-loop invariant-loop decreases-loop) → c.before.loop.place + 7 + get_or (begun c.before).args.sizes.now c.before.loop.i 0 + total (drop (c.before.loop.i + 1) (begun c.before).args.sizes.now) ≤ 65536
-past c = omega (arith, c.before.loop.invariant.1, (place_next (begun c.before).args.sizes.now c.before.loop.i c.before.loop.place (omega arith)).1)
+past : (c : tie.In-loop-i invariant-loop-i decreases-loop-i) → c.loop-i.place + 7 + get_or (begun c.before).args.sizes.now c.loop-i.i 0 + total (drop (c.loop-i.i + 1) (begun c.before).args.sizes.now) ≤ 65536
+past c = omega (arith, c.loop-i.invariant.1, (place_next (begun c.before).args.sizes.now c.loop-i.i c.loop-i.place (omega arith)).1)
 
-loop-holds : tie.Need-loop-init invariant-loop decreases-loop
-loop-holds c =
+loop-i-init : tie.Need-loop-i-init invariant-loop-i decreases-loop-i
+loop-i-init c =
     let s = c.before.before in
     let a = s.args in
     (omega arith, s.requires.0, (a.start, omega arith, put_none (write_places (places_by a.first a.sizes.now)) a.start a.out.now))
 
-mul-put-four : tie.Need-overflow-mul-put-four invariant-loop decreases-loop
-mul-put-four c = omega (arith, space c.before)
+overflow_mul-i : tie.Need-overflow_mul-i invariant-loop-i decreases-loop-i
+overflow_mul-i c = omega (arith, space c.before)
 
-add-put-four : tie.Need-overflow-add-put-four invariant-loop decreases-loop
-add-put-four c = omega (arith, space c.before)
+overflow_add-start : tie.Need-overflow_add-start invariant-loop-i decreases-loop-i
+overflow_add-start c = omega (arith, space c.before)
 
-put-four-requires : tie.Need-put-four-requires invariant-loop decreases-loop
-put-four-requires c κs = omega (arith, space c.before, c.before.before.loop.invariant.2.2.kept)
+put_four-requires : tie.Need-put_four-requires invariant-loop-i decreases-loop-i
+put_four-requires c κs = omega (arith, space c.before, c.loop-i.invariant.2.2.kept)
 
-add-place : tie.Need-overflow-add-place invariant-loop decreases-loop
-add-place c = omega (arith, past c.before.before.before.before)
+overflow_add-place : tie.Need-overflow_add-place invariant-loop-i decreases-loop-i
+overflow_add-place c = omega (arith, past c.before.before.before.before)
 
-mul-place : tie.Need-overflow-mul-place invariant-loop decreases-loop
-mul-place c = search rules
+offset_bounds-sizes-i : tie.Need-offset_bounds-sizes-i invariant-loop-i decreases-loop-i
+offset_bounds-sizes-i c = search rules
 
-shared-slice-read-place : tie.Need-shared-slice-read-place invariant-loop decreases-loop
-shared-slice-read-place c = search rules
+bounds-sizes-i : tie.Need-bounds-sizes-i invariant-loop-i decreases-loop-i
+bounds-sizes-i c = search rules
 
-add-place-2 : tie.Need-overflow-add-place-2 invariant-loop decreases-loop
-add-place-2 c = omega (arith, past c.before.before.before.before.before)
+overflow_add-place-in-loop-i : tie.Need-overflow_add-place-in-loop-i invariant-loop-i decreases-loop-i
+overflow_add-place-in-loop-i c = omega (arith, past c.before.before.before.before.before)
 
-add-i : tie.Need-overflow-add-i invariant-loop decreases-loop
-add-i c = search rules
+overflow_add-i : tie.Need-overflow_add-i invariant-loop-i decreases-loop-i
+overflow_add-i c = search rules
 
-loop-less : tie.Need-loop-smaller invariant-loop decreases-loop
-loop-less c = search rules
+loop-i-smaller : tie.Need-loop-i-smaller invariant-loop-i decreases-loop-i
+loop-i-smaller c = search rules
 
-loop-again : tie.Need-loop-preserved invariant-loop decreases-loop
-loop-again c =
+loop-i-preserved : tie.Need-loop-i-preserved invariant-loop-i decreases-loop-i
+loop-i-preserved c =
     let f = c.before.before.before in
     let l = f.before.before in
     let a = (begun l.before).args in
-    let p = l.before.loop in
+    let p = l.loop-i in
     let four = length_digits 256 4 p.place in
     let at = p.invariant.2.0 in (
       omega arith,
@@ -78,35 +78,35 @@ loop-again c =
       (
         at + 4,
         omega (arith, p.invariant.2.1),
-        put_more (digits 256 4 p.place) (write_places (places_by (p.place + 7 + get_or a.sizes.now p.i 0) (drop (p.i + 1) a.sizes.now))) f.put_four.new.0 (at + 4) p.invariant.2.2
-            (place_next a.sizes.now p.i p.place (omega arith)).0 (f.put_four.ensures ∙ ap (λ (n : ℕ). placed n (digits 256 4 p.place) p.out) (sym p.invariant.2.1)) (omega (arith, four)) (omega (arith, p.invariant.2.1, space l)) f.put_four.auto.0,
+        put_more (digits 256 4 p.place) (write_places (places_by (p.place + 7 + get_or a.sizes.now p.i 0) (drop (p.i + 1) a.sizes.now))) f.put_four.new.out (at + 4) p.invariant.2.2
+            (place_next a.sizes.now p.i p.place (omega arith)).0 (f.put_four.ensures ∙ ap (λ (n : ℕ). placed n (digits 256 4 p.place) p.out) (sym p.invariant.2.1)) (omega (arith, four)) (omega (arith, p.invariant.2.1, space l)) f.put_four.auto.out,
       ),
     )
 
-same_length : tie.Need-same-length invariant-loop decreases-loop
-same_length c = c.before.loop.invariant.2.2.kept
+shape_of-out : tie.Need-shape_of-out invariant-loop-i decreases-loop-i
+shape_of-out c = c.loop-i.invariant.2.2.kept
 
-returns : tie.Need-returns invariant-loop decreases-loop
+returns : tie.Need-returns invariant-loop-i decreases-loop-i
 returns c =
-    let p = c.before.loop in
-    (put_all p.invariant.2.2 (places_done (begun c.before).args.sizes.now p.i p.place c.loop-test.false)).1
+    let p = c.loop-i in
+    (put_all p.invariant.2.2 (places_done (begun c.before).args.sizes.now p.i p.place c.loop-i-test.false)).1
 
 pub put_places_spec : {M : Type 1} → statement M
 put_places_spec =
     tie.close
     (tie.spec
-    invariant-loop
-    decreases-loop
-    loop-holds
-    mul-put-four
-    add-put-four
-    put-four-requires
-    add-place
-    mul-place
-    shared-slice-read-place
-    add-place-2
-    add-i
-    loop-less
-    loop-again
-    same_length
+    invariant-loop-i
+    decreases-loop-i
+    loop-i-init
+    overflow_mul-i
+    overflow_add-start
+    put_four-requires
+    overflow_add-place
+    offset_bounds-sizes-i
+    bounds-sizes-i
+    overflow_add-place-in-loop-i
+    overflow_add-i
+    loop-i-smaller
+    loop-i-preserved
+    shape_of-out
     returns)

@@ -41,47 +41,47 @@ together at number stretch sealed out one three last room p a q b r c =
         ap (λ (X : Bytes). digits 256 2 number ++ (stretch ∷ (digits 256 4 (length sealed) ++ X))) (append-nil sealed)
         ∙ sym (append_assoc (digits 256 2 number) (stretch ∷ digits 256 4 (length sealed)) sealed)
 
-abbrev begun : tie.After-put-two → tie.Start
+abbrev begun : tie.After-put_two → tie.Start
 begun c = c.before.before.before.before
 
-abbrev numbered : tie.After-put-four → tie.After-put-two
+abbrev numbered : tie.After-put_four → tie.After-put_two
 numbered c = c.before.before.before.before
 
-put-two-requires : tie.Need-put-two-requires
-put-two-requires c κs = search rules
+put_two-requires : tie.Need-put_two-requires
+put_two-requires c κs = search rules
 
-cast-out : tie.Need-overflow-cast-out
-cast-out c = search rules
+overflow_cast-out : tie.Need-overflow_cast-out
+overflow_cast-out c = search rules
 
-add-out : tie.Need-overflow-add-out
-add-out c = search rules
+overflow_add-out : tie.Need-overflow_add-out
+overflow_add-out c = search rules
 
-slice-write-out : tie.Need-slice-write-out
-slice-write-out c = search rules
+bounds-out-at : tie.Need-bounds-out-at
+bounds-out-at c = search rules
 
-add-put-four : tie.Need-overflow-add-put-four
-add-put-four c = search rules
+overflow_add-at : tie.Need-overflow_add-at
+overflow_add-at c = search rules
 
-put-four-requires : tie.Need-put-four-requires
-put-four-requires c κs =
+put_four-requires : tie.Need-put_four-requires
+put_four-requires c κs =
     let t = c.before.before.before in
-    simp length-set (omega (arith, t.put_two.auto.0, (begun t).requires.1))
+    simp length-set (omega (arith, t.put_two.auto.out, (begun t).requires.1))
 
-add-copy : tie.Need-overflow-add-copy
-add-copy c = search rules
+overflow_add-at-2 : tie.Need-overflow_add-at-2
+overflow_add-at-2 c = search rules
 
 copy-requires : tie.Need-copy-requires
 copy-requires c κs =
     let f = c.before.before.before in
     let t = numbered f in
-    omega (arith, f.put_four.auto.0, length-set t.put_two.last.0 ((begun t).args.at + 2) (begun t).args.stretch, t.put_two.kept.0, (begun t).pre.1)
+    omega (arith, f.put_four.auto.out, length-set t.put_two.new.out ((begun t).args.at + 2) (begun t).args.stretch, t.put_two.auto.out, (begun t).requires.1)
 
-same_length : tie.Need-same-length
-same_length c =
+shape_of-out : tie.Need-shape_of-out
+shape_of-out c =
     let l = c.before.before in
     let f = l.before.before.before.before in
     let t = numbered f in
-    l.copy.auto.0 ∙ f.put_four.auto.0 ∙ length-set t.put_two.last.0 ((begun t).args.at + 2) (begun t).args.stretch ∙ t.put_two.kept.0
+    l.copy.auto.s ∙ f.put_four.auto.out ∙ length-set t.put_two.new.out ((begun t).args.at + 2) (begun t).args.stretch ∙ t.put_two.auto.out
 
 returns : tie.Need-returns
 returns c =
@@ -89,20 +89,20 @@ returns c =
     let f = l.before.before.before.before in
     let t = numbered f in
     let a = (begun t).args in
-    together a.at a.number a.stretch a.sealed.now a.out.now t.put_two.last.0 f.put_four.new.0 l.copy.new.0 (begun t).pre.1
-    t.put_two.ensures t.put_two.kept.0 f.put_four.ensures f.put_four.auto.0 l.copy.ensures l.copy.auto.0
+    together a.at a.number a.stretch a.sealed.now a.out.now t.put_two.new.out f.put_four.new.out l.copy.new.s (begun t).requires.1
+    t.put_two.ensures t.put_two.auto.out f.put_four.ensures f.put_four.auto.out l.copy.ensures l.copy.auto.s
 
 pub put_record_spec : {M : Type 1} → statement M
 put_record_spec =
     tie.close
     (tie.spec
-    put-two-requires
-    cast-out
-    add-out
-    slice-write-out
-    add-put-four
-    put-four-requires
-    add-copy
+    put_two-requires
+    overflow_cast-out
+    overflow_add-out
+    bounds-out-at
+    overflow_add-at
+    put_four-requires
+    overflow_add-at-2
     copy-requires
-    same_length
+    shape_of-out
     returns)

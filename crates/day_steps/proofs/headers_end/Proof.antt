@@ -58,7 +58,7 @@ loop-left-preserved c =
     let h = c.before in
     let l = (looped h).loop-left in
     let f = (start (looped h)).args.file.now in
-    let from = c.in-At.from in
+    let from = c.in-At.field-0 in
     let to = c.in-At.end in
     let s : HeaderStep (At from to) f l.at = rw c.in-At.is at h.header_at.ensures in
     (s.1, (l.invariant.1.0 ++ take (to - from) (drop from f) ∷ [], l.invariant.1.1 ∙ headers_turn f l.left l.at (omega arith) l.invariant.1.0 from to s))

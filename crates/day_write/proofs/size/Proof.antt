@@ -4,51 +4,51 @@ use borrow.Author.Rules.{rules}
 use Rattle.day_write.proofs.size.Statement.{statement}
 use Rattle.day_write.proofs.size.Tie as tie
 
+returns-then-headers-gt65536 : tie.Need-returns-then-headers-gt65536
+returns-then-headers-gt65536 c = (λ p. omega arith, λ p. omega arith)
+
+returns-then-joined-gt65536 : tie.Need-returns-then-joined-gt65536
+returns-then-joined-gt65536 c = (λ p. omega arith, λ p. omega arith)
+
+returns-then-records-gt65536 : tie.Need-returns-then-records-gt65536
+returns-then-records-gt65536 c = (λ p. omega arith, λ p. omega arith)
+
+returns-then-sealed-gt65536 : tie.Need-returns-then-sealed-gt65536
+returns-then-sealed-gt65536 c = (λ p. omega arith, λ p. omega arith)
+
+overflow_mul-result : tie.Need-overflow_mul-result
+overflow_mul-result c = search rules
+
+overflow_add-result : tie.Need-overflow_add-result
+overflow_add-result c = search rules
+
+overflow_add-result-2 : tie.Need-overflow_add-result-2
+overflow_add-result-2 c = search rules
+
+overflow_mul-result-2 : tie.Need-overflow_mul-result-2
+overflow_mul-result-2 c = search rules
+
+overflow_add-result-3 : tie.Need-overflow_add-result-3
+overflow_add-result-3 c = search rules
+
+overflow_add-result-4 : tie.Need-overflow_add-result-4
+overflow_add-result-4 c = search rules
+
 returns : tie.Need-returns
 returns c = (λ p. omega arith, λ p. omega arith)
-
-returns-2 : tie.Need-returns-2
-returns-2 c = (λ p. omega arith, λ p. omega arith)
-
-returns-3 : tie.Need-returns-3
-returns-3 c = (λ p. omega arith, λ p. omega arith)
-
-returns-4 : tie.Need-returns-4
-returns-4 c = (λ p. omega arith, λ p. omega arith)
-
-mul-result : tie.Need-overflow-mul-result
-mul-result c = search rules
-
-add-result : tie.Need-overflow-add-result
-add-result c = search rules
-
-add-result-2 : tie.Need-overflow-add-result-2
-add-result-2 c = search rules
-
-mul-result-2 : tie.Need-overflow-mul-result-2
-mul-result-2 c = search rules
-
-add-result-3 : tie.Need-overflow-add-result-3
-add-result-3 c = search rules
-
-add-result-4 : tie.Need-overflow-add-result-4
-add-result-4 c = search rules
-
-returns-5 : tie.Need-returns-5
-returns-5 c = (λ p. omega arith, λ p. omega arith)
 
 pub size_spec : {M : Type 1} → statement M
 size_spec =
     tie.close
     (tie.spec
-    returns
-    returns-2
-    returns-3
-    returns-4
-    mul-result
-    add-result
-    add-result-2
-    mul-result-2
-    add-result-3
-    add-result-4
-    returns-5)
+    returns-then-headers-gt65536
+    returns-then-joined-gt65536
+    returns-then-records-gt65536
+    returns-then-sealed-gt65536
+    overflow_mul-result
+    overflow_add-result
+    overflow_add-result-2
+    overflow_mul-result-2
+    overflow_add-result-3
+    overflow_add-result-4
+    returns)

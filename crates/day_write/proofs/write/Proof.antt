@@ -11,25 +11,25 @@ use Rattle.day_write.proofs.write.Statement.{statement}
 use Rattle.day_write.proofs.write.Tie as tie
 
 -- back over the output and the six lists that are lent
-abbrev sixth : tie.After-settled → tie.After-shared-slice-known6
+abbrev sixth : tie.After-settled-number → tie.After-shared_slice_known-6-1
 sixth c = c.before.before
 
-abbrev fourth : tie.After-shared-slice-known6 → tie.After-shared-slice-known4
+abbrev fourth : tie.After-shared_slice_known-6-1 → tie.After-shared_slice_known-4-1
 fourth c = c.before.before
 
-abbrev second : tie.After-shared-slice-known4 → tie.After-shared-slice-known2
+abbrev second : tie.After-shared_slice_known-4-1 → tie.After-shared_slice_known-2-1
 second c = c.before.before
 
-abbrev start : tie.After-settled → tie.Start
+abbrev start : tie.After-settled-number → tie.Start
 start c = (second (fourth (sixth c))).before.before
 
 -- 0 is settled
-module _ (c : tie.Else1) where
+module _ (c : tie.Else-number-ne0) where
   abbrev s : tie.Start
   s = start c.before
 
   fits : Accepted s.args.lengths.now s.args.headers.now s.args.numbers.now s.args.stretches.now s.args.sizes.now s.args.sealed.now (length s.args.out.now)
-  fits = accepted s.args.lengths.now s.args.headers.now s.args.numbers.now s.args.stretches.now s.args.sizes.now s.args.sealed.now c.before.settled.result (length s.args.out.now) c.before.settled.ensures c.if1.false
+  fits = accepted s.args.lengths.now s.args.headers.now s.args.numbers.now s.args.stretches.now s.args.sizes.now s.args.sealed.now c.settled-number.result (length s.args.out.now) c.settled-number.ensures c.if-number-ne0.false
 
   heads : length (headers_written (headers_of s.args.lengths.now s.args.headers.now)) ≡ 2 * length s.args.lengths.now + length s.args.headers.now
   heads = heads_long s.args.lengths.now s.args.headers.now s.args.numbers.now s.args.stretches.now s.args.sizes.now s.args.sealed.now fits.all
@@ -38,120 +38,120 @@ module _ (c : tie.Else1) where
   recs = records_long_here s.args.lengths.now s.args.headers.now s.args.numbers.now s.args.stretches.now s.args.sizes.now s.args.sealed.now fits.all
 
 -- once each part is put the output is whole again
-abbrev whole_one : tie.After-slice-known2 → tie.After-put-four
+abbrev whole_one : tie.After-slice_known-2-1 → tie.After-put_four
 whole_one c = c.before.before
 
-abbrev whole_two : tie.After-slice-known3 → tie.After-put-headers
+abbrev whole_two : tie.After-slice_known-3-1 → tie.After-put_headers-end
 whole_two c = c.before.before
 
-abbrev whole_three : tie.After-slice-known4 → tie.After-put-four2
+abbrev whole_three : tie.After-slice_known-4-1 → tie.After-put_four-2
 whole_three c = c.before.before
 
-abbrev whole_four : tie.After-slice-known5 → tie.After-put-records
+abbrev whole_four : tie.After-slice_known-5-1 → tie.After-put_records-index
 whole_four c = c.before.before
 
-abbrev whole_five : tie.After-slice-known6 → tie.After-put-four3
+abbrev whole_five : tie.After-slice_known-6-1 → tie.After-put_four-3
 whole_five c = c.before.before
 
-abbrev whole_six : tie.After-slice-known7 → tie.After-put-places
+abbrev whole_six : tie.After-slice_known-7-1 → tie.After-put_places
 whole_six c = c.before.before
 
 -- the parts, each after the one before
-abbrev one : tie.After-put-four → tie.Else1
+abbrev one : tie.After-put_four → tie.Else-number-ne0
 one c = c.before.before
 
-abbrev two : tie.After-put-headers → tie.After-put-four
+abbrev two : tie.After-put_headers-end → tie.After-put_four
 two c = whole_one c.before.before
 
-abbrev three : tie.After-put-four2 → tie.After-put-headers
+abbrev three : tie.After-put_four-2 → tie.After-put_headers-end
 three c = whole_two c.before.before
 
-abbrev four : tie.After-put-records → tie.After-put-four2
+abbrev four : tie.After-put_records-index → tie.After-put_four-2
 four c = whole_three c.before.before
 
-abbrev five : tie.After-put-four3 → tie.After-put-records
+abbrev five : tie.After-put_four-3 → tie.After-put_records-index
 five c = whole_four c.before.before
 
-abbrev six : tie.After-put-places → tie.After-put-four3
+abbrev six : tie.After-put_places → tie.After-put_four-3
 six c = whole_five c.before.before
 
 -- where the headers and the records end, and the output's length so far
-module _ (c : tie.After-put-headers) where
-  after_heads : (c.put-headers.result ≡ 4 + 2 * length (s (one (two c))).args.lengths.now + length (s (one (two c))).args.headers.now) × (length c.put-headers.new.1.1.0 ≡ length (s (one (two c))).args.out.now)
-  after_heads = (omega (arith, c.put-headers.ensures.0, heads (one (two c))), c.put-headers.auto.1.1.0 ∙ (two c).put_four.auto.0)
+module _ (c : tie.After-put_headers-end) where
+  after_heads : (c.put_headers-end.result ≡ 4 + 2 * length (s (one (two c))).args.lengths.now + length (s (one (two c))).args.headers.now) × (length c.put_headers-end.new.out ≡ length (s (one (two c))).args.out.now)
+  after_heads = (omega (arith, c.put_headers-end.ensures.0, heads (one (two c))), c.put_headers-end.auto.out ∙ (two c).put_four.auto.out)
 
-module _ (c : tie.After-put-records) where
-  abbrev headed : tie.After-put-headers
+module _ (c : tie.After-put_records-index) where
+  abbrev headed : tie.After-put_headers-end
   headed = three (four c)
 
-  abbrev first : tie.Else1
+  abbrev first : tie.Else-number-ne0
   first = one (two headed)
 
-  after_records : (c.put-records.result ≡ 8 + 2 * length (s first).args.lengths.now + length (s first).args.headers.now + 7 * length (s first).args.sizes.now + length (s first).args.sealed.now) × (length c.put-records.new.1.1.1.1.1.0 ≡ length (s first).args.out.now)
+  after_records : (c.put_records-index.result ≡ 8 + 2 * length (s first).args.lengths.now + length (s first).args.headers.now + 7 * length (s first).args.sizes.now + length (s first).args.sealed.now) × (length c.put_records-index.new.out ≡ length (s first).args.out.now)
   after_records = (
-    omega (arith, c.put-records.ensures.0, recs first, (after_heads headed).0),
-    c.put-records.auto.1.1.1.1.1.0 ∙ (four c).put-four2.auto.0 ∙ (after_heads headed).1,
+    omega (arith, c.put_records-index.ensures.0, recs first, (after_heads headed).0),
+    c.put_records-index.auto.out ∙ (four c).put_four-2.auto.out ∙ (after_heads headed).1,
   )
 
-settled-requires : tie.Need-settled-requires
-settled-requires c κs = search rules
+settled-number-requires : tie.Need-settled-number-requires
+settled-number-requires c κs = search rules
 
-returns : tie.Need-returns
-returns c =
+returns-then-number-ne0 : tie.Need-returns-then-number-ne0
+returns-then-number-ne0 c =
     let b = (start c.before).args in
-    write_refused b.lengths.now b.headers.now b.numbers.now b.stretches.now b.sizes.now b.sealed.now c.before.settled.result b.out.now c.before.settled.ensures c.if1.true
+    write_refused b.lengths.now b.headers.now b.numbers.now b.stretches.now b.sizes.now b.sealed.now c.settled-number.result b.out.now c.settled-number.ensures c.if-number-ne0.true
 
-put-four-requires : tie.Need-put-four-requires
-put-four-requires c κs = omega (arith, (fits c.before).has_room)
+put_four-requires : tie.Need-put_four-requires
+put_four-requires c κs = omega (arith, (fits c.before).has_room)
 
-put-headers-requires : tie.Need-put-headers-requires
-put-headers-requires c κs =
+put_headers-end-requires : tie.Need-put_headers-end-requires
+put_headers-end-requires c κs =
     let f = whole_one c.before in
-    ((fits (one f)).headed, omega (arith, (fits (one f)).has_room, f.put_four.kept.0))
+    ((fits (one f)).headed, omega (arith, (fits (one f)).has_room, f.put_four.auto.out))
 
-put-four-requires-2 : tie.Need-put-four-requires-2
-put-four-requires-2 c κs =
+put_four-requires-2 : tie.Need-put_four-requires-2
+put_four-requires-2 c κs =
     let h = whole_two c.before in
     omega (arith, (fits (one (two h))).has_room, (after_heads h).0, (after_heads h).1)
 
-add-first : tie.Need-overflow-add-first
-add-first c =
+overflow_add-first : tie.Need-overflow_add-first
+overflow_add-first c =
     let h = three (whole_three c) in
     omega (arith, (fits (one (two h))).short, (after_heads h).0)
 
-put-records-requires : tie.Need-put-records-requires
-put-records-requires c κs =
+put_records-index-requires : tie.Need-put_records-index-requires
+put_records-index-requires c κs =
     let d = whole_three c.before in
     let h = three d in
-    ((fits (one (two h))).recorded, omega (arith, (fits (one (two h))).has_room, (after_heads h).0, (after_heads h).1, d.put-four2.kept.0))
+    ((fits (one (two h))).recorded, omega (arith, (fits (one (two h))).has_room, (after_heads h).0, (after_heads h).1, d.put_four-2.auto.out))
 
-put-four-requires-3 : tie.Need-put-four-requires-3
-put-four-requires-3 c κs =
+put_four-requires-3 : tie.Need-put_four-requires-3
+put_four-requires-3 c κs =
     let r = whole_four c.before in
     omega (arith, (fits (first r)).has_room, (after_records r).0, (after_records r).1)
 
-add-put-places : tie.Need-overflow-add-put-places
-add-put-places c =
+overflow_add-index : tie.Need-overflow_add-index
+overflow_add-index c =
     let r = five (whole_five c.before) in
     omega (arith, (fits (first r)).short, (after_records r).0)
 
-put-places-requires : tie.Need-put-places-requires
-put-places-requires c κs =
+put_places-requires : tie.Need-put_places-requires
+put_places-requires c κs =
     let d = whole_five c.before in
     let r = five d in
     let f = first r in (
       omega (arith, (fits f).short, (after_heads (headed r)).0, total_is (s f).args.lengths.now (s f).args.headers.now (s f).args.numbers.now (s f).args.stretches.now (s f).args.sizes.now (s f).args.sealed.now (fits f).all),
-      omega (arith, (fits f).has_room, (after_records r).0, (after_records r).1, d.put-four3.kept.0),
+      omega (arith, (fits f).has_room, (after_records r).0, (after_records r).1, d.put_four-3.auto.out),
     )
 
-size-requires : tie.Need-size-requires
-size-requires c κs = search rules
+size-length-requires : tie.Need-size-length-requires
+size-length-requires c κs = search rules
 
-same_length : tie.Need-same-length
-same_length c = search rules
+shape_of-out : tie.Need-shape_of-out
+shape_of-out c = search rules
 
-returns-2 : tie.Need-returns-2
-returns-2 c =
+returns : tie.Need-returns
+returns c =
     let p = whole_six c.before in
     let d = six p in
     let r = five d in
@@ -160,26 +160,26 @@ returns-2 c =
     let b = two h in
     let f = one b in
     wrote (s f).args.lengths.now (s f).args.headers.now (s f).args.numbers.now (s f).args.stretches.now (s f).args.sizes.now (s f).args.sealed.now (fits f).all (s f).args.out.now
-    b.put_four.last.0 h.put-headers.last.1.1.0 e.put-four2.last.0 r.put-records.last.1.1.1.1.1.0 d.put-four3.last.0 p.put-places.last.1.1.0
-    h.put-headers.result r.put-records.result (fits f).has_room
-    b.put_four.ensures b.put_four.kept.0 h.put-headers.ensures.0 h.put-headers.ensures.1 h.put-headers.kept.1.1.0 e.put-four2.ensures e.put-four2.kept.0
-    r.put-records.ensures.0 r.put-records.ensures.1 r.put-records.kept.1.1.1.1.1.0 d.put-four3.ensures d.put-four3.kept.0 p.put-places.ensures p.put-places.kept.1.1.0
-    (fits f).short f.before.settled.result c.size.result f.if1.left c.size.ensures
+    b.put_four.new.out h.put_headers-end.new.out e.put_four-2.new.out r.put_records-index.new.out d.put_four-3.new.out p.put_places.new.out
+    h.put_headers-end.result r.put_records-index.result (fits f).has_room
+    b.put_four.ensures b.put_four.auto.out h.put_headers-end.ensures.0 h.put_headers-end.ensures.1 h.put_headers-end.auto.out e.put_four-2.ensures e.put_four-2.auto.out
+    r.put_records-index.ensures.0 r.put_records-index.ensures.1 r.put_records-index.auto.out d.put_four-3.ensures d.put_four-3.auto.out p.put_places.ensures p.put_places.auto.out
+    (fits f).short f.settled-number.result c.size-length.result f.if-number-ne0.false c.size-length.ensures
 
 pub write_spec : {M : Type 1} → statement M
 write_spec =
     tie.close
     (tie.spec
-    settled-requires
-    returns
-    put-four-requires
-    put-headers-requires
-    put-four-requires-2
-    add-first
-    put-records-requires
-    put-four-requires-3
-    add-put-places
-    put-places-requires
-    size-requires
-    same_length
-    returns-2)
+    settled-number-requires
+    returns-then-number-ne0
+    put_four-requires
+    put_headers-end-requires
+    put_four-requires-2
+    overflow_add-first
+    put_records-index-requires
+    put_four-requires-3
+    overflow_add-index
+    put_places-requires
+    size-length-requires
+    shape_of-out
+    returns)

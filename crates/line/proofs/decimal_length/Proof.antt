@@ -10,38 +10,45 @@ use Rattle.laws.proofs.Decimals.{decimal_digit, decimal_more, decimal_some, deci
 use Rattle.line.proofs.decimal_length.Statement.{statement}
 use Rattle.line.proofs.decimal_length.Tie as tie
 
-abbrev invariant-loop : tie.invariant-loop
-invariant-loop n left₀ count₀ left count = length (decimal n) + 1 ≡ count + length (decimal left)
+abbrev invariant-loop-left : tie.invariant-loop-left
+invariant-loop-left n left₀ count₀ left count = length (decimal n) + 1 ≡ count + length (decimal left)
 
-abbrev decreases-loop : tie.decreases-loop
-decreases-loop n left₀ count₀ left count = left
+abbrev decreases-loop-left : tie.decreases-loop-left
+decreases-loop-left n left₀ count₀ left count = left
 
 -- a number of 64 bits has at most 20 digits
-few : (l : tie.At-loop invariant-loop decreases-loop) → l.loop.count ≤ 20
+few : (l : tie.At-loop-left invariant-loop-left decreases-loop-left) → l.loop-left.count ≤ 20
 few l =
-    let n = l.before.args.n in
-    omega (arith, l.loop.invariant, decimal_some l.loop.left, decimal_length 19 n (omega (arith, l.before.ranges.n)))
+    let n = l.args.n in
+    omega (arith, l.loop-left.invariant, decimal_some l.loop-left.left, decimal_length 19 n (omega (arith, l.ranges.n)))
 
-loop-holds : tie.Need-loop-init invariant-loop decreases-loop
-loop-holds c = omega arith
+loop-left-init : tie.Need-loop-left-init invariant-loop-left decreases-loop-left
+loop-left-init c = omega arith
 
-add-count : tie.Need-overflow-add-count invariant-loop decreases-loop
-add-count c = omega (arith, few c.before)
+overflow_add-count : tie.Need-overflow_add-count invariant-loop-left decreases-loop-left
+overflow_add-count c = omega (arith, few c.before)
 
-loop-less : tie.Need-loop-smaller invariant-loop decreases-loop
-loop-less c = search rules
+loop-left-smaller : tie.Need-loop-left-smaller invariant-loop-left decreases-loop-left
+loop-left-smaller c = search rules
 
-loop-again : tie.Need-loop-preserved invariant-loop decreases-loop
-loop-again c =
-    let l = c.before.loop in
-    omega (arith, l.invariant, ap length (decimal_more l.left c.loop-test.true), length-append (decimal (l.left / 10)) ((0x30 + l.left % 10) ∷ []))
+loop-left-preserved : tie.Need-loop-left-preserved invariant-loop-left decreases-loop-left
+loop-left-preserved c =
+    let l = c.loop-left in
+    omega (arith, l.invariant, ap length (decimal_more l.left c.loop-left-test.true), length-append (decimal (l.left / 10)) ((0x30 + l.left % 10) ∷ []))
 
-returns : tie.Need-returns invariant-loop decreases-loop
+returns : tie.Need-returns invariant-loop-left decreases-loop-left
 returns c =
-    let l = c.before.loop in
-    let one = ap length (decimal_digit l.left c.loop-test.false) in
+    let l = c.loop-left in
+    let one = ap length (decimal_digit l.left c.loop-left-test.false) in
     (omega (arith, l.invariant, one), omega (arith, l.invariant, one, few c.before))
 
 pub decimal_length_spec : {M : Type 1} → statement M
 decimal_length_spec =
-    tie.close (tie.spec invariant-loop decreases-loop loop-holds add-count loop-less loop-again returns)
+    tie.close (tie.spec
+    invariant-loop-left
+    decreases-loop-left
+    loop-left-init
+    overflow_add-count
+    loop-left-smaller
+    loop-left-preserved
+    returns)

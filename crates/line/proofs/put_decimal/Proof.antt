@@ -11,14 +11,14 @@ use Rattle.line.proofs.Putting.{Putting, begun, in_out, same_room, not_first, on
 use Rattle.line.proofs.put_decimal.Statement.{statement}
 use Rattle.line.proofs.put_decimal.Tie as tie
 
-abbrev invariant-loop : tie.invariant-loop
-invariant-loop out₀ at n place₀ left₀ out place left = Putting n left at place out₀ out
+abbrev invariant-loop-left : tie.invariant-loop-left
+invariant-loop-left out₀ at n place₀ left₀ out place left = Putting n left at place out₀ out
 
-abbrev decreases-loop : tie.decreases-loop
-decreases-loop out₀ at n place₀ left₀ out place left = left
+abbrev decreases-loop-left : tie.decreases-loop-left
+decreases-loop-left out₀ at n place₀ left₀ out place left = left
 
-module _ (l : tie.At-loop invariant-loop decreases-loop) where
-  abbrev s : tie.Start invariant-loop decreases-loop
+module _ (l : tie.At-loop-left invariant-loop-left decreases-loop-left) where
+  abbrev s : tie.Start invariant-loop-left decreases-loop-left
   s = l.before.before.before
 
   abbrev n : ℕ
@@ -31,79 +31,79 @@ module _ (l : tie.At-loop invariant-loop decreases-loop) where
   out = s.args.out.now
 
   fits : at + length (decimal n) ≤ length out
-  fits = s.pre
+  fits = s.requires
 
-  long : length l.loop.out ≡ length out
-  long = same_room n l.loop.left at l.loop.place out l.loop.out fits l.loop.inv
+  long : length l.loop-left.out ≡ length out
+  long = same_room n l.loop-left.left at l.loop-left.place out l.loop-left.out fits l.loop-left.invariant
 
-  inside : l.loop.place < length l.loop.out
-  inside = omega (arith, long, in_out n l.loop.left at l.loop.place out l.loop.out fits l.loop.inv)
+  inside : l.loop-left.place < length l.loop-left.out
+  inside = omega (arith, long, in_out n l.loop-left.left at l.loop-left.place out l.loop-left.out fits l.loop-left.invariant)
 
-decimal-length-requires : tie.Need-decimal-length-requires invariant-loop decreases-loop
-decimal-length-requires c κs = search rules
+decimal_length-requires : tie.Need-decimal_length-requires invariant-loop-left decreases-loop-left
+decimal_length-requires c κs = search rules
 
-add-place : tie.Need-overflow-add-place invariant-loop decreases-loop
-add-place c = search rules
+overflow_add-place : tie.Need-overflow_add-place invariant-loop-left decreases-loop-left
+overflow_add-place c = search rules
 
-sub-place : tie.Need-overflow-sub-place invariant-loop decreases-loop
-sub-place c = omega (arith, decimal_some c.before.before.args.n)
+overflow_sub-place : tie.Need-overflow_sub-place invariant-loop-left decreases-loop-left
+overflow_sub-place c = omega (arith, decimal_some c.args.n)
 
-loop-holds : tie.Need-loop-init invariant-loop decreases-loop
-loop-holds c =
-    let a = c.before.before.args in
-    begun a.n a.at (a.at + c.decimal-length.result - 1) a.out.now (omega (arith, c.decimal-length.ensures.0, decimal_some a.n))
+loop-left-init : tie.Need-loop-left-init invariant-loop-left decreases-loop-left
+loop-left-init c =
+    let a = c.args in
+    begun a.n a.at (a.at + c.decimal_length.result - 1) a.out.now (omega (arith, c.decimal_length.ensures.0, decimal_some a.n))
 
-add-out : tie.Need-overflow-add-out invariant-loop decreases-loop
-add-out c = search rules
+overflow_add-out : tie.Need-overflow_add-out invariant-loop-left decreases-loop-left
+overflow_add-out c = search rules
 
-cast-out : tie.Need-overflow-cast-out invariant-loop decreases-loop
-cast-out c = search rules
+overflow_cast-out : tie.Need-overflow_cast-out invariant-loop-left decreases-loop-left
+overflow_cast-out c = search rules
 
-slice-write-out : tie.Need-slice-write-out invariant-loop decreases-loop
-slice-write-out c = let l = c.before in omega (arith, inside l)
+bounds-out-place : tie.Need-bounds-out-place invariant-loop-left decreases-loop-left
+bounds-out-place c = let l = c.before in omega (arith, inside l)
 
-sub-place-2 : tie.Need-overflow-sub-place-2 invariant-loop decreases-loop
-sub-place-2 c = let l = c.before in omega (arith, not_first (n l) l.loop.left (at l) l.loop.place (out l) l.loop.out (fits l) l.loop.invariant c.loop-test.true)
+overflow_sub-place-in-loop-left : tie.Need-overflow_sub-place-in-loop-left invariant-loop-left decreases-loop-left
+overflow_sub-place-in-loop-left c = let l = c.before in omega (arith, not_first (n l) l.loop-left.left (at l) l.loop-left.place (out l) l.loop-left.out (fits l) l.loop-left.invariant c.loop-left-test.true)
 
-loop-less : tie.Need-loop-smaller invariant-loop decreases-loop
-loop-less c = search rules
+loop-left-smaller : tie.Need-loop-left-smaller invariant-loop-left decreases-loop-left
+loop-left-smaller c = search rules
 
-loop-again : tie.Need-loop-preserved invariant-loop decreases-loop
-loop-again c = let l = c.before in one_more (n l) l.loop.left (at l) l.loop.place (out l) l.loop.out (fits l) l.loop.invariant c.loop-test.true
+loop-left-preserved : tie.Need-loop-left-preserved invariant-loop-left decreases-loop-left
+loop-left-preserved c = let l = c.before in one_more (n l) l.loop-left.left (at l) l.loop-left.place (out l) l.loop-left.out (fits l) l.loop-left.invariant c.loop-left-test.true
 
-add-out-2 : tie.Need-overflow-add-out-2 invariant-loop decreases-loop
-add-out-2 c = search rules
+overflow_add-out-2 : tie.Need-overflow_add-out-2 invariant-loop-left decreases-loop-left
+overflow_add-out-2 c = search rules
 
-cast-out-2 : tie.Need-overflow-cast-out-2 invariant-loop decreases-loop
-cast-out-2 c = search rules
+overflow_cast-out-2 : tie.Need-overflow_cast-out-2 invariant-loop-left decreases-loop-left
+overflow_cast-out-2 c = search rules
 
-slice-write-out-2 : tie.Need-slice-write-out-2 invariant-loop decreases-loop
-slice-write-out-2 c = omega (arith, inside c.before)
+bounds-out-place-2 : tie.Need-bounds-out-place-2 invariant-loop-left decreases-loop-left
+bounds-out-place-2 c = omega (arith, inside c.before)
 
-same_length : tie.Need-same-length invariant-loop decreases-loop
-same_length c = simp length-set (long c.before)
+shape_of-out : tie.Need-shape_of-out invariant-loop-left decreases-loop-left
+shape_of-out c = simp length-set (long c.before)
 
-returns : tie.Need-returns invariant-loop decreases-loop
-returns c = let l = c.before in first_digit (n l) l.loop.left (at l) l.loop.place (out l) l.loop.out (fits l) l.loop.invariant c.loop-test.false
+returns : tie.Need-returns invariant-loop-left decreases-loop-left
+returns c = let l = c.before in first_digit (n l) l.loop-left.left (at l) l.loop-left.place (out l) l.loop-left.out (fits l) l.loop-left.invariant c.loop-left-test.false
 
 pub put_decimal_spec : {M : Type 1} → statement M
 put_decimal_spec =
     tie.close
     (tie.spec
-    invariant-loop
-    decreases-loop
-    decimal-length-requires
-    add-place
-    sub-place
-    loop-holds
-    add-out
-    cast-out
-    slice-write-out
-    sub-place-2
-    loop-less
-    loop-again
-    add-out-2
-    cast-out-2
-    slice-write-out-2
-    same_length
+    invariant-loop-left
+    decreases-loop-left
+    decimal_length-requires
+    overflow_add-place
+    overflow_sub-place
+    loop-left-init
+    overflow_add-out
+    overflow_cast-out
+    bounds-out-place
+    overflow_sub-place-in-loop-left
+    loop-left-smaller
+    loop-left-preserved
+    overflow_add-out-2
+    overflow_cast-out-2
+    bounds-out-place-2
+    shape_of-out
     returns)

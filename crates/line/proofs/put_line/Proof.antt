@@ -10,79 +10,79 @@ use Rattle.line.proofs.put_line.Tie as tie
 
 -- ---- The places: each call, from the one after it
 
-abbrev start : tie.After-put-field → tie.Start
+abbrev start : tie.After-put_field-second → tie.Start
 start c = c.before.before.before
 
-abbrev first : tie.After-put-field2 → tie.After-put-field
+abbrev first : tie.After-put_field-third → tie.After-put_field-second
 first c = c.before.before.before.before
 
-abbrev second : tie.After-put-field3 → tie.After-put-field2
+abbrev second : tie.After-put_field-fourth → tie.After-put_field-third
 second c = c.before.before.before.before
 
-abbrev third : tie.After-put-field4 → tie.After-put-field3
+abbrev third : tie.After-put_field-fifth → tie.After-put_field-fourth
 third c = c.before.before.before.before
 
-abbrev fourth : tie.After-put-field5 → tie.After-put-field4
+abbrev fourth : tie.After-put_field-sixth → tie.After-put_field-fifth
 fourth c = c.before.before.before.before
 
-abbrev fifth : tie.After-put-field6 → tie.After-put-field5
+abbrev fifth : tie.After-put_field → tie.After-put_field-sixth
 fifth c = c.before.before.before.before
 
 abbrev report : tie.Start → paper.Report
 report s = meaning s.args.r
 
 -- no call changes the output's length
-long1 : (c : tie.After-put-field) → length c.put-field.new.0 ≡ length (start c).args.out.now
-long1 c = c.put-field.auto.0
+long1 : (c : tie.After-put_field-second) → length c.put_field-second.new.out ≡ length (start c).args.out.now
+long1 c = c.put_field-second.auto.out
 
-long2 : (c : tie.After-put-field2) → length c.put-field2.new.0 ≡ length (start (first c)).args.out.now
-long2 c = c.put-field2.auto.0 ∙ long1 (first c)
+long2 : (c : tie.After-put_field-third) → length c.put_field-third.new.out ≡ length (start (first c)).args.out.now
+long2 c = c.put_field-third.auto.out ∙ long1 (first c)
 
-long3 : (c : tie.After-put-field3) → length c.put-field3.new.0 ≡ length (start (first (second c))).args.out.now
-long3 c = c.put-field3.auto.0 ∙ long2 (second c)
+long3 : (c : tie.After-put_field-fourth) → length c.put_field-fourth.new.out ≡ length (start (first (second c))).args.out.now
+long3 c = c.put_field-fourth.auto.out ∙ long2 (second c)
 
-long4 : (c : tie.After-put-field4) → length c.put-field4.new.0 ≡ length (start (first (second (third c)))).args.out.now
-long4 c = c.put-field4.auto.0 ∙ long3 (third c)
+long4 : (c : tie.After-put_field-fifth) → length c.put_field-fifth.new.out ≡ length (start (first (second (third c)))).args.out.now
+long4 c = c.put_field-fifth.auto.out ∙ long3 (third c)
 
-long5 : (c : tie.After-put-field5) → length c.put-field5.new.0 ≡ length (start (first (second (third (fourth c))))).args.out.now
-long5 c = c.put-field5.auto.0 ∙ long4 (fourth c)
+long5 : (c : tie.After-put_field-sixth) → length c.put_field-sixth.new.out ≡ length (start (first (second (third (fourth c))))).args.out.now
+long5 c = c.put_field-sixth.auto.out ∙ long4 (fourth c)
 
-put-field-requires : tie.Need-put-field-requires
-put-field-requires c κs = let s = c.before.before in omega (arith, s.requires, fields_long (report s))
+put_field-second-requires : tie.Need-put_field-second-requires
+put_field-second-requires c κs = let s = c.before.before in omega (arith, s.requires, fields_long (report s))
 
-put-field-requires-2 : tie.Need-put-field-requires-2
-put-field-requires-2 c κs =
+put_field-third-requires : tie.Need-put_field-third-requires
+put_field-third-requires c κs =
     let one = c.before.before.before in
     let s = start one in
-    omega (arith, s.pre, fields_long (report s), long1 one, one.put-field.ensures.0)
+    omega (arith, s.requires, fields_long (report s), long1 one, one.put_field-second.ensures.0)
 
-put-field-requires-3 : tie.Need-put-field-requires-3
-put-field-requires-3 c κs =
+put_field-fourth-requires : tie.Need-put_field-fourth-requires
+put_field-fourth-requires c κs =
     let two = c.before.before.before in
     let one = first two in
     let s = start one in
-    omega (arith, s.pre, fields_long (report s), long2 two, one.put-field.ensures.0, two.put-field2.ensures.0)
+    omega (arith, s.requires, fields_long (report s), long2 two, one.put_field-second.ensures.0, two.put_field-third.ensures.0)
 
-put-field-requires-4 : tie.Need-put-field-requires-4
-put-field-requires-4 c κs =
+put_field-fifth-requires : tie.Need-put_field-fifth-requires
+put_field-fifth-requires c κs =
     let three = c.before.before.before in
     let two = second three in
     let one = first two in
     let s = start one in
-    omega (arith, s.pre, fields_long (report s), long3 three, one.put-field.ensures.0, two.put-field2.ensures.0, three.put-field3.ensures.0)
+    omega (arith, s.requires, fields_long (report s), long3 three, one.put_field-second.ensures.0, two.put_field-third.ensures.0, three.put_field-fourth.ensures.0)
 
-put-field-requires-5 : tie.Need-put-field-requires-5
-put-field-requires-5 c κs =
+put_field-sixth-requires : tie.Need-put_field-sixth-requires
+put_field-sixth-requires c κs =
     let four = c.before.before.before in
     let three = third four in
     let two = second three in
     let one = first two in
     let s = start one in
     omega
-    (arith, s.pre, fields_long (report s), long4 four, one.put-field.ensures.0, two.put-field2.ensures.0, three.put-field3.ensures.0, four.put-field4.ensures.0)
+    (arith, s.requires, fields_long (report s), long4 four, one.put_field-second.ensures.0, two.put_field-third.ensures.0, three.put_field-fourth.ensures.0, four.put_field-fifth.ensures.0)
 
-put-field-requires-6 : tie.Need-put-field-requires-6
-put-field-requires-6 c κs =
+put_field-requires : tie.Need-put_field-requires
+put_field-requires c κs =
     let five = c.before.before.before in
     let four = fourth five in
     let three = third four in
@@ -90,10 +90,10 @@ put-field-requires-6 c κs =
     let one = first two in
     let s = start one in
     omega
-    (arith, s.pre, fields_long (report s), long5 five, one.put-field.ensures.0, two.put-field2.ensures.0, three.put-field3.ensures.0, four.put-field4.ensures.0, five.put-field5.ensures.0)
+    (arith, s.requires, fields_long (report s), long5 five, one.put_field-second.ensures.0, two.put_field-third.ensures.0, three.put_field-fourth.ensures.0, four.put_field-fifth.ensures.0, five.put_field-sixth.ensures.0)
 
-same_length : tie.Need-same-length
-same_length c = let six = c.before.before in six.put-field6.auto.0 ∙ long5 (fifth six)
+shape_of-out : tie.Need-shape_of-out
+shape_of-out c = let six = c.before.before in six.put_field.auto.out ∙ long5 (fifth six)
 
 returns : tie.Need-returns
 returns c =
@@ -105,21 +105,21 @@ returns c =
     let one = first two in
     let s = start one in
     together (report s) s.args.out.now
-    one.put-field.last.0 two.put-field2.last.0 three.put-field3.last.0 four.put-field4.last.0 five.put-field5.last.0 six.put-field6.new.0
-    one.put-field.result two.put-field2.result three.put-field3.result four.put-field4.result five.put-field5.result s.pre
-    one.put-field.ensures.1 one.put-field.ensures.0 two.put-field2.ensures.1 two.put-field2.ensures.0
-    three.put-field3.ensures.1 three.put-field3.ensures.0 four.put-field4.ensures.1 four.put-field4.ensures.0
-    five.put-field5.ensures.1 five.put-field5.ensures.0 six.put-field6.ensures.1
+    one.put_field-second.new.out two.put_field-third.new.out three.put_field-fourth.new.out four.put_field-fifth.new.out five.put_field-sixth.new.out six.put_field.new.out
+    one.put_field-second.result two.put_field-third.result three.put_field-fourth.result four.put_field-fifth.result five.put_field-sixth.result s.requires
+    one.put_field-second.ensures.1 one.put_field-second.ensures.0 two.put_field-third.ensures.1 two.put_field-third.ensures.0
+    three.put_field-fourth.ensures.1 three.put_field-fourth.ensures.0 four.put_field-fifth.ensures.1 four.put_field-fifth.ensures.0
+    five.put_field-sixth.ensures.1 five.put_field-sixth.ensures.0 six.put_field.ensures.1
 
 pub put_line_spec : {M : Type 1} → statement M
 put_line_spec =
     tie.close
     (tie.spec
-    put-field-requires
-    put-field-requires-2
-    put-field-requires-3
-    put-field-requires-4
-    put-field-requires-5
-    put-field-requires-6
-    same_length
+    put_field-second-requires
+    put_field-third-requires
+    put_field-fourth-requires
+    put_field-fifth-requires
+    put_field-sixth-requires
+    put_field-requires
+    shape_of-out
     returns)

@@ -10,67 +10,67 @@ use Rattle.pause_mark.proofs.Table.{row_long, first_row, found_row, next_row, no
 use Rattle.pause_mark.proofs.mark_of.Statement.{statement}
 use Rattle.pause_mark.proofs.mark_of.Tie as tie
 
-abbrev invariant-loop : tie.invariant-loop
-invariant-loop name i₀ i = (i ≤ 4) × (mark_of name ≡ mark_in (drop i locales) name)
+abbrev invariant-loop-i : tie.invariant-loop-i
+invariant-loop-i name i₀ i = (i ≤ 4) × (mark_of name ≡ mark_in (drop i locales) name)
 
-abbrev decreases-loop : tie.decreases-loop
-decreases-loop name i₀ i = 4 - i
+abbrev decreases-loop-i : tie.decreases-loop-i
+decreases-loop-i name i₀ i = 4 - i
 
-abbrev turn : tie.After-known2 invariant-loop decreases-loop → tie.At-loop invariant-loop decreases-loop
+abbrev turn : tie.After-known-in-loop-i-1 invariant-loop-i decreases-loop-i → tie.At-loop-i invariant-loop-i decreases-loop-i
 turn c = c.before.before.before.before
 
-abbrev name : tie.At-loop invariant-loop decreases-loop → Bytes
-name l = l.before.before.args.name.now
+abbrev name : tie.At-loop-i invariant-loop-i decreases-loop-i → Bytes
+name l = l.args.name.now
 
-loop-holds : tie.Need-loop-init invariant-loop decreases-loop
-loop-holds c = (omega arith, first_row c.before.args.name.now)
+loop-i-init : tie.Need-loop-i-init invariant-loop-i decreases-loop-i
+loop-i-init c = (omega arith, first_row c.args.name.now)
 
-mul-l : tie.Need-overflow-mul-l invariant-loop decreases-loop
-mul-l c = search rules
+offset_bounds-i : tie.Need-offset_bounds-i invariant-loop-i decreases-loop-i
+offset_bounds-i c = search rules
 
-array-copy-out-l : tie.Need-array-copy-out-l invariant-loop decreases-loop
-array-copy-out-l c = search rules
+bounds-i-i : tie.Need-bounds-i-i invariant-loop-i decreases-loop-i
+bounds-i-i c = search rules
 
-slice-aggregate-is-rest : tie.Need-slice-aggregate-is-rest invariant-loop decreases-loop
-slice-aggregate-is-rest c = let l = turn c in sym (row_long l.loop.i (omega arith))
+slice_bounds-is_rest-end : tie.Need-slice_bounds-is_rest-end invariant-loop-i decreases-loop-i
+slice_bounds-is_rest-end c = let l = turn c in sym (row_long l.loop-i.i (omega arith))
 
-is-rest-requires : tie.Need-is-rest-requires invariant-loop decreases-loop
-is-rest-requires c κs = search rules
+is_rest-requires : tie.Need-is_rest-requires invariant-loop-i decreases-loop-i
+is_rest-requires c κs = search rules
 
-returns : tie.Need-returns invariant-loop decreases-loop
-returns c =
+returns-then-is_rest : tie.Need-returns-then-is_rest invariant-loop-i decreases-loop-i
+returns-then-is_rest c =
     let r = c.before in
     let l = turn r.before in
-    found_row (name l) l.loop.i l.loop.invariant.1 (omega arith) (sym r.is-rest.ensures ∙ c.if1.true)
+    found_row (name l) l.loop-i.i l.loop-i.invariant.1 (omega arith) (sym r.is_rest.ensures ∙ c.if-is_rest.true)
 
-add-i : tie.Need-overflow-add-i invariant-loop decreases-loop
-add-i c = search rules
+overflow_add-i : tie.Need-overflow_add-i invariant-loop-i decreases-loop-i
+overflow_add-i c = search rules
 
-loop-less : tie.Need-loop-smaller invariant-loop decreases-loop
-loop-less c = search rules
+loop-i-smaller : tie.Need-loop-i-smaller invariant-loop-i decreases-loop-i
+loop-i-smaller c = search rules
 
-loop-again : tie.Need-loop-preserved invariant-loop decreases-loop
-loop-again c =
+loop-i-preserved : tie.Need-loop-i-preserved invariant-loop-i decreases-loop-i
+loop-i-preserved c =
     let r = c.before in
     let l = turn r.before in
-    (omega arith, next_row (name l) l.loop.i l.loop.invariant.1 (omega arith) (sym r.is-rest.ensures ∙ c.if1.false))
+    (omega arith, next_row (name l) l.loop-i.i l.loop-i.invariant.1 (omega arith) (sym r.is_rest.ensures ∙ c.if-is_rest.false))
 
-returns-2 : tie.Need-returns-2 invariant-loop decreases-loop
-returns-2 c = let l = c.before in no_row (name l) l.loop.i l.loop.invariant.1 (omega arith)
+returns : tie.Need-returns invariant-loop-i decreases-loop-i
+returns c = let l = c.before in no_row (name l) l.loop-i.i l.loop-i.invariant.1 (omega arith)
 
 pub mark_of_spec : {M : Type 1} → statement M
 mark_of_spec =
     tie.close
     (tie.spec
-    invariant-loop
-    decreases-loop
-    loop-holds
-    mul-l
-    array-copy-out-l
-    slice-aggregate-is-rest
-    is-rest-requires
-    returns
-    add-i
-    loop-less
-    loop-again
-    returns-2)
+    invariant-loop-i
+    decreases-loop-i
+    loop-i-init
+    offset_bounds-i
+    bounds-i-i
+    slice_bounds-is_rest-end
+    is_rest-requires
+    returns-then-is_rest
+    overflow_add-i
+    loop-i-smaller
+    loop-i-preserved
+    returns)

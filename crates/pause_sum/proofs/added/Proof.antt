@@ -7,47 +7,55 @@ use borrow.Author.Rules.{rules}
 use Rattle.pause_sum.proofs.added.Statement.{statement}
 use Rattle.pause_sum.proofs.added.Tie as tie
 
-abbrev compared : tie.After-struct-known3 → tie.After-larger
+abbrev compared : tie.After-struct_known-in-Pause-2-1 → tie.After-larger-longest
 compared c = c.before.before
 
-abbrev read : tie.After-larger → tie.After-pause
-read c = c.before.before
+abbrev read : tie.After-larger-longest → tie.In-Pause
+read c = c.before
 
-enum_told : tie.Need-enum-told
-enum_told c = search rules
+enum_told-1 : tie.Need-enum_told-1
+enum_told-1 c = search rules
 
-add-t6 : tie.Need-overflow-add-t6
-add-t6 c = search rules
+overflow_add-result : tie.Need-overflow_add-result
+overflow_add-result c = search rules
 
-enum-known-pause : tie.Need-enum-known-pause
-enum-known-pause c = search rules
+enum_known-pause : tie.Need-enum_known-pause
+enum_known-pause c = search rules
 
-larger-requires : tie.Need-larger-requires
-larger-requires c κs = search rules
+larger-longest-requires : tie.Need-larger-longest-requires
+larger-longest-requires c κs = search rules
 
-add-t7 : tie.Need-overflow-add-t7
-add-t7 c = search rules
+overflow_add-result-in-Pause : tie.Need-overflow_add-result-in-Pause
+overflow_add-result-in-Pause c = search rules
 
-add-t8 : tie.Need-overflow-add-t8
-add-t8 c = let p = read (compared c) in omega (arith, p.before.before.pre.2, ap microseconds_in p.pause.given.1)
+overflow_add-result-in-Pause-2 : tie.Need-overflow_add-result-in-Pause-2
+overflow_add-result-in-Pause-2 c = let p = read (compared c) in omega (arith, p.requires.2, ap microseconds_in p.in-Pause.is)
 
-returns : tie.Need-returns
-returns c =
+returns-in-Bad : tie.Need-returns-in-Bad
+returns-in-Bad c =
     let e = c.before in
-    let s = e.before.before in
-    sym (ap (added_to s.args.t) e.enum_told.given.1)
+    let s = e.before in
+    sym (ap (added_to s.args.t) e.in-Bad.is)
 
-returns-2 : tie.Need-returns-2
-returns-2 c =
+returns-in-Pause : tie.Need-returns-in-Pause
+returns-in-Pause c =
     let l = compared c in
     let p = read l in
-    let s = p.before.before in
+    let s = p.before in
     let t = s.args.t in
-    let n = p.pause.given.0.0 in
-    ap (λ (l : ℕ). record { read = t.read + 1; refused = t.refused; sum = t.sum + n; longest = l }) l.larger.ensures
-    ∙ sym (ap (added_to t) p.pause.given.1)
+    let n = p.in-Pause.n in
+    ap (λ (l : ℕ). record { read = t.read + 1; refused = t.refused; sum = t.sum + n; longest = l }) l.larger-longest.ensures
+    ∙ sym (ap (added_to t) p.in-Pause.is)
 
 pub added_spec : {M : Type 1} → statement M
 added_spec =
     tie.close
-    (tie.spec enum_told add-t6 enum-known-pause larger-requires add-t7 add-t8 returns returns-2)
+    (tie.spec
+    enum_told-1
+    overflow_add-result
+    enum_known-pause
+    larger-longest-requires
+    overflow_add-result-in-Pause
+    overflow_add-result-in-Pause-2
+    returns-in-Bad
+    returns-in-Pause)

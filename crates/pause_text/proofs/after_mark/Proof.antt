@@ -11,14 +11,14 @@ use Rattle.pause_text.proofs.Reading.{whole_below, fraction_below, no_fraction_n
 use Rattle.pause_text.proofs.after_mark.Statement.{statement}
 use Rattle.pause_text.proofs.after_mark.Tie as tie
 
-abbrev start : tie.After-digits-end → tie.Start
+abbrev start : tie.After-digits_end-end → tie.Start
 start c = c.before.before
 
 -- once the digits after the mark are counted
-abbrev counted : tie.After-number → tie.After-digits-end
+abbrev counted : tie.After-number-n → tie.After-digits_end-end
 counted c = c.before.before.before
 
-module _ (c : tie.After-digits-end) where
+module _ (c : tie.After-digits_end-end) where
   abbrev text : Bytes
   text = (start c).args.text.now
 
@@ -26,71 +26,71 @@ module _ (c : tie.After-digits-end) where
   whole = (start c).args.whole
 
   abbrev end : ℕ
-  end = c.digits-end.result
+  end = c.digits_end-end.result
 
-whole_small : (c : tie.After-number) → c.number.result < 1000000000
+whole_small : (c : tie.After-number-n) → c.number-n.result < 1000000000
 whole_small c =
     let d = counted c in
-    whole_below (text d) (whole d) c.number.result c.number.ensures (start d).pre.1 (start d).pre.2
+    whole_below (text d) (whole d) c.number-n.result c.number-n.ensures (start d).requires.1 (start d).requires.2
 
-fraction_small : (c : tie.After-number2) → c.number2.result < 1000000000000
+fraction_small : (c : tie.After-number-m) → c.number-m.result < 1000000000000
 fraction_small c =
     let d = counted c.before in
-    fraction_below (text d) (whole d) (end d) d.digits-end.ensures.0 c.before.number.result c.number2.result (whole_small c.before) (omega arith) c.number2.ensures
+    fraction_below (text d) (whole d) (end d) d.digits_end-end.ensures.0 c.number-n.result c.number-m.result (whole_small c.before) (omega arith) c.number-m.ensures
 
-add-from : tie.Need-overflow-add-from
-add-from c = search rules
+overflow_add-from : tie.Need-overflow_add-from
+overflow_add-from c = search rules
 
-digits-end-requires : tie.Need-digits-end-requires
-digits-end-requires c κs = search rules
+digits_end-end-requires : tie.Need-digits_end-end-requires
+digits_end-end-requires c κs = search rules
 
-sub-digits : tie.Need-overflow-sub-digits
-sub-digits c = search rules
+overflow_sub-digits : tie.Need-overflow_sub-digits
+overflow_sub-digits c = search rules
 
-returns : tie.Need-returns
-returns c = let d = c.before in ap read_as (sym (no_fraction_none (text d) (whole d) (end d) d.digits-end.ensures.0 c.if1.true))
+returns-then-digits-lt1 : tie.Need-returns-then-digits-lt1
+returns-then-digits-lt1 c = let d = c.before in ap read_as (sym (no_fraction_none (text d) (whole d) (end d) d.digits_end-end.ensures.0 c.if-digits-lt1.true))
 
-returns-2 : tie.Need-returns-2
-returns-2 c =
+returns-then-digits-gt3 : tie.Need-returns-then-digits-gt3
+returns-then-digits-gt3 c =
     let d = c.before.before in
     ap read_as
-    (sym (long_fraction (take (whole d) (text d)) (drop (whole d + 1) (text d)) (end d - (whole d + 1)) (omega (arith, d.digits-end.ensures.0)) c.if2.true))
+    (sym (long_fraction (take (whole d) (text d)) (drop (whole d + 1) (text d)) (end d - (whole d + 1)) (omega (arith, d.digits_end-end.ensures.0)) c.if-digits-gt3.true))
 
-number-requires : tie.Need-number-requires
-number-requires c κs = search rules
+number-n-requires : tie.Need-number-n-requires
+number-n-requires c κs = search rules
 
-number-requires-2 : tie.Need-number-requires-2
-number-requires-2 c κs = (whole_small c, omega arith, omega arith, omega arith, omega arith)
+number-m-requires : tie.Need-number-m-requires
+number-m-requires c κs = (whole_small c, omega arith, omega arith, omega arith, omega arith)
 
 filled-requires : tie.Need-filled-requires
 filled-requires c κs = (fraction_small c, omega arith)
 
-with-unit-requires : tie.Need-with-unit-requires
-with-unit-requires c κs =
+with_unit-requires : tie.Need-with_unit-requires
+with_unit-requires c κs =
     let n = c.before in
     let d = counted n.before in
-    (filled_below n.number2.result (end d - (whole d + 1)) c.filled.result (fraction_small n) (omega arith) c.filled.ensures, d.digits-end.ensures.1)
+    (filled_below n.number-m.result (end d - (whole d + 1)) c.filled.result (fraction_small n) (omega arith) c.filled.ensures, d.digits_end-end.ensures.1)
 
-returns-3 : tie.Need-returns-3
-returns-3 c =
+returns : tie.Need-returns
+returns c =
     let f = c.before in
     let n = f.before in
     let d = counted n.before in
     c.with_unit.ensures
     ∙ ap read_as
-    (fraction_good (text d) (whole d) (end d) d.digits-end.ensures.0 (omega arith) (omega arith) n.before.number.result n.number2.result f.filled.result n.before.number.ensures n.number2.ensures f.filled.ensures)
+    (fraction_good (text d) (whole d) (end d) d.digits_end-end.ensures.0 (omega arith) (omega arith) n.number-n.result n.number-m.result f.filled.result n.number-n.ensures n.number-m.ensures f.filled.ensures)
 
 pub after_mark_spec : {M : Type 1} → statement M
 after_mark_spec =
     tie.close
     (tie.spec
-    add-from
-    digits-end-requires
-    sub-digits
-    returns
-    returns-2
-    number-requires
-    number-requires-2
+    overflow_add-from
+    digits_end-end-requires
+    overflow_sub-digits
+    returns-then-digits-lt1
+    returns-then-digits-gt3
+    number-n-requires
+    number-m-requires
     filled-requires
-    with-unit-requires
-    returns-3)
+    with_unit-requires
+    returns)

@@ -10,65 +10,65 @@ use Rattle.pause_text.proofs.Texts.{digit_here, none_here, none_left}
 use Rattle.pause_text.proofs.digits_end.Statement.{statement}
 use Rattle.pause_text.proofs.digits_end.Tie as tie
 
-abbrev invariant-loop : tie.invariant-loop
-invariant-loop text from at₀ at = (at ≤ length text) × (from + digits_first (drop from text) ≡ at + digits_first (drop at text))
+abbrev invariant-loop-at : tie.invariant-loop-at
+invariant-loop-at text from at₀ at = (at ≤ length text) × (from + digits_first (drop from text) ≡ at + digits_first (drop at text))
 
-abbrev decreases-loop : tie.decreases-loop
-decreases-loop text from at₀ at = length text - at
+abbrev decreases-loop-at : tie.decreases-loop-at
+decreases-loop-at text from at₀ at = length text - at
 
-abbrev turn : tie.After-shared-slice-known invariant-loop decreases-loop → tie.At-loop invariant-loop decreases-loop
+abbrev turn : tie.After-shared_slice_known-1 invariant-loop-at decreases-loop-at → tie.At-loop-at invariant-loop-at decreases-loop-at
 turn c = c.before.before
 
-loop-holds : tie.Need-loop-init invariant-loop decreases-loop
-loop-holds c = search rules
+loop-at-init : tie.Need-loop-at-init invariant-loop-at decreases-loop-at
+loop-at-init c = search rules
 
-shared-slice-read-if1 : tie.Need-shared-slice-read-if1 invariant-loop decreases-loop
-shared-slice-read-if1 c = search rules
+bounds-text-at : tie.Need-bounds-text-at invariant-loop-at decreases-loop-at
+bounds-text-at c = search rules
 
-returns : tie.Need-returns invariant-loop decreases-loop
-returns c =
+returns-then-text-at-lt48 : tie.Need-returns-then-text-at-lt48 invariant-loop-at decreases-loop-at
+returns-then-text-at-lt48 c =
     let l = turn c.before in
-    let t = l.before.args.text.now in
-    (omega (arith, l.loop.invariant.1, none_here t l.loop.at (omega arith) (below_digits (get_or t l.loop.at 0) c.if1.true)), omega arith)
+    let t = l.args.text.now in
+    (omega (arith, l.loop-at.invariant.1, none_here t l.loop-at.at (omega arith) (below_digits (get_or t l.loop-at.at 0) c.if-text-at-lt48.true)), omega arith)
 
-shared-slice-read-if2 : tie.Need-shared-slice-read-if2 invariant-loop decreases-loop
-shared-slice-read-if2 c = search rules
+bounds-text-at-in-loop-at : tie.Need-bounds-text-at-in-loop-at invariant-loop-at decreases-loop-at
+bounds-text-at-in-loop-at c = search rules
 
-returns-2 : tie.Need-returns-2 invariant-loop decreases-loop
-returns-2 c =
+returns-then-text-at-gt57 : tie.Need-returns-then-text-at-gt57 invariant-loop-at decreases-loop-at
+returns-then-text-at-gt57 c =
     let l = turn c.before.before.before in
-    let t = l.before.args.text.now in
-    (omega (arith, l.loop.invariant.1, none_here t l.loop.at (omega arith) (above_digits (get_or t l.loop.at 0) c.if2.true)), omega arith)
+    let t = l.args.text.now in
+    (omega (arith, l.loop-at.invariant.1, none_here t l.loop-at.at (omega arith) (above_digits (get_or t l.loop-at.at 0) c.if-text-at-gt57.true)), omega arith)
 
-add_at : tie.Need-overflow-add-at invariant-loop decreases-loop
-add_at c = search rules
+overflow_add-at : tie.Need-overflow_add-at invariant-loop-at decreases-loop-at
+overflow_add-at c = search rules
 
-loop-less : tie.Need-loop-smaller invariant-loop decreases-loop
-loop-less c = search rules
+loop-at-smaller : tie.Need-loop-at-smaller invariant-loop-at decreases-loop-at
+loop-at-smaller c = search rules
 
-loop-again : tie.Need-loop-preserved invariant-loop decreases-loop
-loop-again c =
+loop-at-preserved : tie.Need-loop-at-preserved invariant-loop-at decreases-loop-at
+loop-at-preserved c =
     let l = turn c.before.before.before in
-    let t = l.before.args.text.now in
-    (omega arith, omega (arith, l.loop.invariant.1, digit_here t l.loop.at (omega arith) (bounds_digit (get_or t l.loop.at 0) c.before.before.if1.false c.if2.false)))
+    let t = l.args.text.now in
+    (omega arith, omega (arith, l.loop-at.invariant.1, digit_here t l.loop-at.at (omega arith) (bounds_digit (get_or t l.loop-at.at 0) c.if-text-at-lt48.false c.if-text-at-gt57.false)))
 
-returns-3 : tie.Need-returns-3 invariant-loop decreases-loop
-returns-3 c =
+returns : tie.Need-returns invariant-loop-at decreases-loop-at
+returns c =
     let l = c.before in
-    (omega (arith, l.loop.invariant.1, none_left l.before.args.text.now l.loop.at c.loop-test.false), omega arith)
+    (omega (arith, l.loop-at.invariant.1, none_left l.args.text.now l.loop-at.at c.loop-at-test.false), omega arith)
 
 pub digits_end_spec : {M : Type 1} → statement M
 digits_end_spec =
     tie.close
     (tie.spec
-    invariant-loop
-    decreases-loop
-    loop-holds
-    shared-slice-read-if1
-    returns
-    shared-slice-read-if2
-    returns-2
-    add_at
-    loop-less
-    loop-again
-    returns-3)
+    invariant-loop-at
+    decreases-loop-at
+    loop-at-init
+    bounds-text-at
+    returns-then-text-at-lt48
+    bounds-text-at-in-loop-at
+    returns-then-text-at-gt57
+    overflow_add-at
+    loop-at-smaller
+    loop-at-preserved
+    returns)

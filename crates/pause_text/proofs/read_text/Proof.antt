@@ -10,14 +10,14 @@ use Rattle.pause_text.proofs.Reading.{whole_below, nothing_after, mark_after, no
 use Rattle.pause_text.proofs.read_text.Statement.{statement}
 use Rattle.pause_text.proofs.read_text.Tie as tie
 
-abbrev start : tie.After-digits-end → tie.Start
+abbrev start : tie.After-digits_end-whole → tie.Start
 start c = c.before.before
 
 -- once the whole number's digits are counted, and a byte follows them
-abbrev counted : tie.After-shared-slice-known2 → tie.After-digits-end
+abbrev counted : tie.After-shared_slice_known-2-1 → tie.After-digits_end-whole
 counted c = c.before.before.before.before
 
-module _ (c : tie.After-digits-end) where
+module _ (c : tie.After-digits_end-whole) where
   abbrev text : Bytes
   text = (start c).args.text.now
 
@@ -25,76 +25,76 @@ module _ (c : tie.After-digits-end) where
   mark = (start c).args.mark
 
   abbrev whole : ℕ
-  whole = c.digits-end.result
+  whole = c.digits_end-whole.result
 
-whole_small : (c : tie.After-number) → c.number.result < 1000000000
+whole_small : (c : tie.After-number-n) → c.number-n.result < 1000000000
 whole_small c =
     let d = counted c.before.before in
-    whole_below (text d) (whole d) c.number.result c.number.ensures (omega arith) (omega (arith, d.digits-end.ensures.0))
+    whole_below (text d) (whole d) c.number-n.result c.number-n.ensures (omega arith) (omega (arith, d.digits_end-whole.ensures.0))
 
-digits-end-requires : tie.Need-digits-end-requires
-digits-end-requires c κs = search rules
+digits_end-whole-requires : tie.Need-digits_end-whole-requires
+digits_end-whole-requires c κs = search rules
 
-returns : tie.Need-returns
-returns c =
+returns-then-whole-lt1 : tie.Need-returns-then-whole-lt1
+returns-then-whole-lt1 c =
     let d = c.before in
-    ap read_as (sym (no_whole (mark d) (text d) (whole d) (omega (arith, d.digits-end.ensures.0)) c.if1.true))
+    ap read_as (sym (no_whole (mark d) (text d) (whole d) (omega (arith, d.digits_end-whole.ensures.0)) c.if-whole-lt1.true))
 
-returns-2 : tie.Need-returns-2
-returns-2 c =
+returns-then-whole-gt9 : tie.Need-returns-then-whole-gt9
+returns-then-whole-gt9 c =
     let d = c.before.before in
-    ap read_as (sym (long_whole (mark d) (text d) (whole d) (omega (arith, d.digits-end.ensures.0)) c.if2.true))
+    ap read_as (sym (long_whole (mark d) (text d) (whole d) (omega (arith, d.digits_end-whole.ensures.0)) c.if-whole-gt9.true))
 
-returns-3 : tie.Need-returns-3
-returns-3 c =
+returns-then-whole-text : tie.Need-returns-then-whole-text
+returns-then-whole-text c =
     let d = c.before.before.before in
-    ap read_as (sym (nothing_after (text d) (whole d) (mark d) d.digits-end.ensures.0 (omega arith) (omega arith) c.if3.true))
+    ap read_as (sym (nothing_after (text d) (whole d) (mark d) d.digits_end-whole.ensures.0 (omega arith) (omega arith) c.if-whole-text.true))
 
-shared-slice-read-if4 : tie.Need-shared-slice-read-if4
-shared-slice-read-if4 c = search rules
+bounds-text-whole : tie.Need-bounds-text-whole
+bounds-text-whole c = search rules
 
-after-mark-requires : tie.Need-after-mark-requires
-after-mark-requires c κs = search rules
+after_mark-requires : tie.Need-after_mark-requires
+after_mark-requires c κs = search rules
 
-returns-4 : tie.Need-returns-4
-returns-4 c =
+returns-then-text-whole : tie.Need-returns-then-text-whole
+returns-then-text-whole c =
     let t = c.before in
     let d = counted t.before in
-    c.after-mark.ensures
-    ∙ ap read_as (sym (mark_after (text d) (whole d) (mark d) d.digits-end.ensures.0 (omega arith) (omega arith) t.if4.true))
+    c.after_mark.ensures
+    ∙ ap read_as (sym (mark_after (text d) (whole d) (mark d) d.digits_end-whole.ensures.0 (omega arith) (omega arith) t.if-text-whole.true))
 
-number-requires : tie.Need-number-requires
-number-requires c κs = search rules
+number-n-requires : tie.Need-number-n-requires
+number-n-requires c κs = search rules
 
 filled-requires : tie.Need-filled-requires
 filled-requires c κs = (omega (arith, whole_small c), omega arith)
 
-with-unit-requires : tie.Need-with-unit-requires
-with-unit-requires c κs =
+with_unit-requires : tie.Need-with_unit-requires
+with_unit-requires c κs =
     let n = c.before in
-    (filled_below n.number.result 0 c.filled.result (omega (arith, whole_small n)) (omega arith) c.filled.ensures, (counted n.before.before).digits-end.ensures.1)
+    (filled_below n.number-n.result 0 c.filled.result (omega (arith, whole_small n)) (omega arith) c.filled.ensures, (counted n.before.before).digits_end-whole.ensures.1)
 
-returns-5 : tie.Need-returns-5
-returns-5 c =
+returns : tie.Need-returns
+returns c =
     let f = c.before in
     let n = f.before in
     let d = counted n.before.before in
     c.with_unit.ensures
     ∙ ap read_as
-    (no_mark_after (text d) (whole d) (mark d) d.digits-end.ensures.0 (omega arith) (omega arith) n.before.if4.false n.number.result f.filled.result n.number.ensures f.filled.ensures)
+    (no_mark_after (text d) (whole d) (mark d) d.digits_end-whole.ensures.0 (omega arith) (omega arith) n.if-text-whole.false n.number-n.result f.filled.result n.number-n.ensures f.filled.ensures)
 
 pub read_text_spec : {M : Type 1} → statement M
 read_text_spec =
     tie.close
     (tie.spec
-    digits-end-requires
-    returns
-    returns-2
-    returns-3
-    shared-slice-read-if4
-    after-mark-requires
-    returns-4
-    number-requires
+    digits_end-whole-requires
+    returns-then-whole-lt1
+    returns-then-whole-gt9
+    returns-then-whole-text
+    bounds-text-whole
+    after_mark-requires
+    returns-then-text-whole
+    number-n-requires
     filled-requires
-    with-unit-requires
-    returns-5)
+    with_unit-requires
+    returns)

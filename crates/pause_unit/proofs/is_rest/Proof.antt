@@ -10,39 +10,39 @@ use borrow.Author.Rules.{rules}
 use Rattle.pause_unit.proofs.is_rest.Statement.{statement}
 use Rattle.pause_unit.proofs.is_rest.Tie as tie
 
-sub-if1 : tie.Need-overflow-sub-if1
-sub-if1 c = search rules
+overflow_sub-text : tie.Need-overflow_sub-text
+overflow_sub-text c = search rules
+
+returns-then-text-at : tie.Need-returns-then-text-at
+returns-then-text-at c =
+    let a = c.args in
+    differ (drop a.at a.text.now) a.s.now (λ e. c.if-text-at.true (sym (length-drop a.at a.text.now) ∙ e))
+
+slice_bounds-same_bytes-count : tie.Need-slice_bounds-same_bytes-count
+slice_bounds-same_bytes-count c = search rules
+
+slice_bounds-same_bytes-start : tie.Need-slice_bounds-same_bytes-start
+slice_bounds-same_bytes-start c = search rules
+
+slice_bounds-same_bytes-end : tie.Need-slice_bounds-same_bytes-end
+slice_bounds-same_bytes-end c = search rules
+
+same_bytes-requires : tie.Need-same_bytes-requires
+same_bytes-requires c κs = search rules
 
 returns : tie.Need-returns
 returns c =
-    let a = c.before.before.before.args in
-    differ (drop a.at a.text.now) a.s.now (λ e. c.if1.true (sym (length-drop a.at a.text.now) ∙ e))
-
-sub-same-bytes : tie.Need-overflow-sub-same-bytes
-sub-same-bytes c = search rules
-
-part-same-bytes-start : tie.Need-slice-bounds-same-bytes-start
-part-same-bytes-start c = search rules
-
-part-same-bytes-end : tie.Need-slice-bounds-same-bytes-end
-part-same-bytes-end c = search rules
-
-same-bytes-requires : tie.Need-same-bytes-requires
-same-bytes-requires c κs = search rules
-
-returns-2 : tie.Need-returns-2
-returns-2 c =
-    let a = c.before.before.before.before.before.args in
+    let a = c.args in
     c.same_bytes.ensures ∙ ap (λ (X : Bytes). same X a.s.now) (take_all (length a.text.now - a.at) (drop a.at a.text.now) (omega (arith, length-drop a.at a.text.now)))
 
 pub is_rest_spec : {M : Type 1} → statement M
 is_rest_spec =
     tie.close
     (tie.spec
-    sub-if1
-    returns
-    sub-same-bytes
-    part-same-bytes-start
-    part-same-bytes-end
-    same-bytes-requires
-    returns-2)
+    overflow_sub-text
+    returns-then-text-at
+    slice_bounds-same_bytes-count
+    slice_bounds-same_bytes-start
+    slice_bounds-same_bytes-end
+    same_bytes-requires
+    returns)

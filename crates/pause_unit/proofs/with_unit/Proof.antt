@@ -8,21 +8,25 @@ use borrow.Author.Rules.{rules}
 use Rattle.pause_unit.proofs.with_unit.Statement.{statement}
 use Rattle.pause_unit.proofs.with_unit.Tie as tie
 
-unit-requires : tie.Need-unit-requires
-unit-requires c κs = search rules
+unit-u-requires : tie.Need-unit-u-requires
+unit-u-requires c κs = search rules
+
+returns-then-u-eq0 : tie.Need-returns-then-u-eq0
+returns-then-u-eq0 c =
+    let s = c.before.before.before in
+    no_unit_bad s.args.n c.unit-u.result (drop s.args.at s.args.text.now) c.unit-u.ensures.0 c.if-u-eq0.true
+
+overflow_mul-result : tie.Need-overflow_mul-result
+overflow_mul-result c = omega (arith, mul-le-mul_left c.args.n c.unit-u.ensures.1)
 
 returns : tie.Need-returns
 returns c =
     let s = c.before.before.before in
-    no_unit_bad s.args.n c.before.unit.result (drop s.args.at s.args.text.now) c.before.unit.ensures.0 c.if1.true
-
-mul-t6 : tie.Need-overflow-mul-t6
-mul-t6 c = omega (arith, mul-le-mul_left c.before.before.before.args.n c.before.unit.ensures.1)
-
-returns-2 : tie.Need-returns-2
-returns-2 c =
-    let s = c.before.before.before in
-    unit_good s.args.n c.before.unit.result (unit_of (drop s.args.at s.args.text.now)) c.before.unit.ensures.0 c.if1.false
+    unit_good s.args.n c.unit-u.result (unit_of (drop s.args.at s.args.text.now)) c.unit-u.ensures.0 c.if-u-eq0.false
 
 pub with_unit_spec : {M : Type 1} → statement M
-with_unit_spec = tie.close (tie.spec unit-requires returns mul-t6 returns-2)
+with_unit_spec = tie.close (tie.spec
+    unit-u-requires
+    returns-then-u-eq0
+    overflow_mul-result
+    returns)
