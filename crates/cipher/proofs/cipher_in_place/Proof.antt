@@ -14,71 +14,71 @@ abbrev X : tie.Start → Bytes
 X s = s.args.s.now
 
 -- where the string is long, and where it is short: the way that was asked for
-abbrev long : tie.After-core-in-place → tie.Then1
+abbrev long : tie.After-core_in_place → tie.Then-s-ge32
 long c = c.before.before
 
-abbrev enciphering : tie.After-encipher → tie.After-enum-told
+abbrev enciphering : tie.After-encipher → tie.In-Encipher
 enciphering c = c.before.before
 
-abbrev deciphering : tie.After-decipher → tie.After-enum-told2
+abbrev deciphering : tie.After-decipher → tie.In-Decipher
 deciphering c = c.before.before
 
-core-in-place-requires : tie.Need-core-in-place-requires
-core-in-place-requires c κs = search rules
+core_in_place-requires : tie.Need-core_in_place-requires
+core_in_place-requires c κs = search rules
 
-same_length : tie.Need-same-length
-same_length c = search rules
+shape_of-s-then-s-ge32 : tie.Need-shape_of-s-then-s-ge32
+shape_of-s-then-s-ge32 c = search rules
 
-returns : tie.Need-returns
-returns c =
+returns-then-s-ge32 : tie.Need-returns-then-s-ge32
+returns-then-s-ge32 c =
     let e = c.before.before in
     let s = (long e).before.before in
-    by_core (f s) s.args.delta (X s) e.core-in-place.new.1.1.1.0 s.args.way (long e).if1.true e.core-in-place.ensures
+    by_core (f s) s.args.delta (X s) e.core_in_place.new.s s.args.way (long e).if-s-ge32.true e.core_in_place.ensures
 
-enum_told : tie.Need-enum-told
-enum_told c = search rules
+enum_told-1 : tie.Need-enum_told-1
+enum_told-1 c = search rules
 
 encipher-requires : tie.Need-encipher-requires
 encipher-requires c κs = search rules
 
-enum-told-2 : tie.Need-enum-told-2
-enum-told-2 c = search rules
+enum_told-in-Decipher : tie.Need-enum_told-in-Decipher
+enum_told-in-Decipher c = search rules
 
 decipher-requires : tie.Need-decipher-requires
 decipher-requires c κs = search rules
 
-same-length-2 : tie.Need-same-length-2
-same-length-2 c = search rules
+shape_of-s-in-Encipher : tie.Need-shape_of-s-in-Encipher
+shape_of-s-in-Encipher c = search rules
 
-returns-2 : tie.Need-returns-2
-returns-2 c =
+returns-in-Encipher : tie.Need-returns-in-Encipher
+returns-in-Encipher c =
     let e = c.before.before in
-    let short = (enciphering e).before.before in
+    let short = (enciphering e).before in
     let s = short.before.before in
-    by_tiny (f s) s.args.delta (X s) e.encipher.new.1.1.0 short.if1.left s.args.way (enciphering e).enum_told.given.1 e.encipher.ensures
+    by_tiny (f s) s.args.delta (X s) e.encipher.new.s short.if-s-ge32.false s.args.way (enciphering e).in-Encipher.is e.encipher.ensures
 
-same-length-3 : tie.Need-same-length-3
-same-length-3 c = search rules
+shape_of-s-in-Decipher : tie.Need-shape_of-s-in-Decipher
+shape_of-s-in-Decipher c = search rules
 
-returns-3 : tie.Need-returns-3
-returns-3 c =
+returns-in-Decipher : tie.Need-returns-in-Decipher
+returns-in-Decipher c =
     let e = c.before.before in
-    let short = (deciphering e).before.before in
+    let short = (deciphering e).before in
     let s = short.before.before in
-    by_tiny_back (f s) s.args.delta (X s) e.decipher.new.1.1.0 short.if1.left s.args.way (deciphering e).enum-told2.given.1 e.decipher.ensures
+    by_tiny_back (f s) s.args.delta (X s) e.decipher.new.s short.if-s-ge32.false s.args.way (deciphering e).in-Decipher.is e.decipher.ensures
 
 pub cipher_in_place_spec : {M : Type 1} → statement M
 cipher_in_place_spec =
     tie.close
     (tie.spec
-    core-in-place-requires
-    same_length
-    returns
-    enum_told
+    core_in_place-requires
+    shape_of-s-then-s-ge32
+    returns-then-s-ge32
+    enum_told-1
     encipher-requires
-    enum-told-2
+    enum_told-in-Decipher
     decipher-requires
-    same-length-2
-    returns-2
-    same-length-3
-    returns-3)
+    shape_of-s-in-Encipher
+    returns-in-Encipher
+    shape_of-s-in-Decipher
+    returns-in-Decipher)

@@ -25,41 +25,41 @@ t s = s.args.stretch
 
 -- ---- A string of the stretch's length
 
-abbrev equal : tie.After-decrypt-empty → tie.Then1
+abbrev equal : tie.After-decrypt_empty → tie.Then-n-stretch
 equal c = c.before.before
 
 -- ---- Another: each call, from the one after it
 
-abbrev lent : tie.After-same-bytes → tie.After-slice-known4
-lent c = c.before.before.before.before.before
+abbrev lent : tie.After-same_bytes → tie.After-slice_known-3-1
+lent c = c.before.before.before
 
-abbrev deciphered : tie.After-same-bytes → tie.After-cipher-in-place
+abbrev deciphered : tie.After-same_bytes → tie.After-cipher_in_place
 deciphered c = (lent c).before.before
 
-abbrev copied : tie.After-cipher-in-place → tie.After-copy
+abbrev copied : tie.After-cipher_in_place → tie.After-copy
 copied c = c.before.before.before.before
 
-abbrev other : tie.After-copy → tie.Else1
+abbrev other : tie.After-copy → tie.Else-n-stretch
 other c = c.before.before
 
-abbrev start : tie.Else1 → tie.Start
+abbrev start : tie.Else-n-stretch → tie.Start
 start c = c.before.before.before
 
 -- where it is deciphered, and what it deciphers to
-abbrev entry : tie.After-cipher-in-place → tie.Start
+abbrev entry : tie.After-cipher_in_place → tie.Start
 entry c = start (other (copied c))
 
-abbrev X : tie.After-cipher-in-place → Bytes
-X c = c.cipher-in-place.new.1.1.1.0
+abbrev X : tie.After-cipher_in_place → Bytes
+X c = c.cipher_in_place.new.s
 
-more : (c : tie.Else1) → t (start c) < length (C (start c))
-more c = lt_of_le-ne (omega (arith, (start c).requires.1, (start c).requires.3)) (λ e. c.if1.false (sym e))
+more : (c : tie.Else-n-stretch) → t (start c) < length (C (start c))
+more c = lt_of_le-ne (omega (arith, (start c).requires.1, (start c).requires.3)) (λ e. c.if-n-stretch.false (sym e))
 
-put : (c : tie.After-copy) → c.copy.new.0 ≡ C (start (other c))
-put c = let s = start (other c) in put_all (C s) s.args.out.now c.copy.new.0 c.copy.ensures s.pre.1
+put : (c : tie.After-copy) → c.copy.new.s ≡ C (start (other c))
+put c = let s = start (other c) in put_all (C s) s.args.out.now c.copy.new.s c.copy.ensures s.requires.1
 
 -- what is returned and what is left, by what the comparison found
-answers : (c : tie.After-same-bytes) (b : Bool) → c.same_bytes.result ≡ b
+answers : (c : tie.After-same_bytes) (b : Bool) → c.same_bytes.result ≡ b
     → let d = deciphered c in
     let s = entry d in
     let o = decrypt_under (f s) s.args.delta (t s) (C s) in
@@ -67,89 +67,89 @@ answers : (c : tie.After-same-bytes) (b : Bool) → c.same_bytes.result ≡ b
 answers c b e =
     let d = deciphered c in
     let s = entry d in
-    let mid = (copied d).copy.last.0 in
-    answer (f s) s.args.delta (t s) (C s) mid (X d) (put (copied d)) d.cipher-in-place.ensures d.cipher-in-place.kept.1.1.1.0 (more (other (copied d))) c.same_bytes.result b e s.pre.4 c.same_bytes.ensures
+    let mid = (copied d).copy.new.s in
+    answer (f s) s.args.delta (t s) (C s) mid (X d) (put (copied d)) d.cipher_in_place.ensures d.cipher_in_place.auto.s (more (other (copied d))) c.same_bytes.result b e s.requires.4 c.same_bytes.ensures
 
-decrypt-empty-requires : tie.Need-decrypt-empty-requires
-decrypt-empty-requires c κs = search rules
+decrypt_empty-requires : tie.Need-decrypt_empty-requires
+decrypt_empty-requires c κs = search rules
 
-same_length : tie.Need-same-length
-same_length c = search rules
+shape_of-out-then-n-stretch : tie.Need-shape_of-out-then-n-stretch
+shape_of-out-then-n-stretch c = search rules
 
-returns : tie.Need-returns
-returns c =
+returns-then-n-stretch : tie.Need-returns-then-n-stretch
+returns-then-n-stretch c =
     let d = c.before.before in
     let s = (equal d).before.before.before in
-    empty_answer (f s) s.args.delta (t s) (C s) d.decrypt-empty.result (length s.args.out.now) d.decrypt-empty.new.1.1.1.0 (equal d).if1.true s.pre.1 d.decrypt-empty.ensures.0 d.decrypt-empty.ensures.1
+    empty_answer (f s) s.args.delta (t s) (C s) d.decrypt_empty.result (length s.args.out.now) d.decrypt_empty.new.out (equal d).if-n-stretch.true s.requires.1 d.decrypt_empty.ensures.0 d.decrypt_empty.ensures.1
 
 copy-requires : tie.Need-copy-requires
 copy-requires c κs = search rules
 
-cipher-in-place-requires : tie.Need-cipher-in-place-requires
-cipher-in-place-requires c κs = search rules
+cipher_in_place-requires : tie.Need-cipher_in_place-requires
+cipher_in_place-requires c κs = search rules
 
-sub_at : tie.Need-overflow-sub-at
-sub_at c = search rules
+overflow_sub-at : tie.Need-overflow_sub-at
+overflow_sub-at c = search rules
 
-sub-same-bytes : tie.Need-overflow-sub-same-bytes
-sub-same-bytes c = search rules
+slice_bounds-same_bytes-count : tie.Need-slice_bounds-same_bytes-count
+slice_bounds-same_bytes-count c = search rules
 
-part-same-bytes-start : tie.Need-slice-bounds-same-bytes-start
-part-same-bytes-start c = search rules
+slice_bounds-same_bytes-start : tie.Need-slice_bounds-same_bytes-start
+slice_bounds-same_bytes-start c = search rules
 
-part-same-bytes-end : tie.Need-slice-bounds-same-bytes-end
-part-same-bytes-end c = search rules
+slice_bounds-same_bytes-end : tie.Need-slice_bounds-same_bytes-end
+slice_bounds-same_bytes-end c = search rules
 
-sub-same-bytes-2 : tie.Need-overflow-sub-same-bytes-2
-sub-same-bytes-2 c = search rules
+slice_bounds-same_bytes-count-2 : tie.Need-slice_bounds-same_bytes-count-2
+slice_bounds-same_bytes-count-2 c = search rules
 
-part-same-bytes-start-2 : tie.Need-slice-bounds-same-bytes-start-2
-part-same-bytes-start-2 c = search rules
+slice_bounds-same_bytes-start-2 : tie.Need-slice_bounds-same_bytes-start-2
+slice_bounds-same_bytes-start-2 c = search rules
 
-part-same-bytes-end-2 : tie.Need-slice-bounds-same-bytes-end-2
-part-same-bytes-end-2 c = search rules
+slice_bounds-same_bytes-end-2 : tie.Need-slice_bounds-same_bytes-end-2
+slice_bounds-same_bytes-end-2 c = search rules
 
-same-bytes-requires : tie.Need-same-bytes-requires
-same-bytes-requires c κs = search rules
+same_bytes-requires : tie.Need-same_bytes-requires
+same_bytes-requires c κs = search rules
 
-same-length-2 : tie.Need-same-length-2
-same-length-2 c = search rules
+shape_of-out-then-same_bytes : tie.Need-shape_of-out-then-same_bytes
+shape_of-out-then-same_bytes c = search rules
 
-returns-2 : tie.Need-returns-2
-returns-2 c = answers c.before true c.if2.true
+returns-then-same_bytes : tie.Need-returns-then-same_bytes
+returns-then-same_bytes c = answers c.before true c.if-same_bytes.true
 
 clear-requires : tie.Need-clear-requires
 clear-requires c κs = search rules
 
-same-length-3 : tie.Need-same-length-3
-same-length-3 c = search rules
+shape_of-out : tie.Need-shape_of-out
+shape_of-out c = search rules
 
-returns-3 : tie.Need-returns-3
-returns-3 c =
+returns : tie.Need-returns
+returns c =
     let cleared = c.before.before in
     let wrong = cleared.before.before in
-    let no = answers wrong.before false wrong.if2.false in
+    let no = answers wrong.before false wrong.if-same_bytes.false in
     (no.0, cleared.clear.ensures ∙ no.1)
 
 pub decrypt_spec : {M : Type 1} → statement M
 decrypt_spec =
     tie.close
     (tie.spec
-    decrypt-empty-requires
-    same_length
-    returns
+    decrypt_empty-requires
+    shape_of-out-then-n-stretch
+    returns-then-n-stretch
     copy-requires
-    cipher-in-place-requires
-    sub_at
-    sub-same-bytes
-    part-same-bytes-start
-    part-same-bytes-end
-    sub-same-bytes-2
-    part-same-bytes-start-2
-    part-same-bytes-end-2
-    same-bytes-requires
-    same-length-2
-    returns-2
+    cipher_in_place-requires
+    overflow_sub-at
+    slice_bounds-same_bytes-count
+    slice_bounds-same_bytes-start
+    slice_bounds-same_bytes-end
+    slice_bounds-same_bytes-count-2
+    slice_bounds-same_bytes-start-2
+    slice_bounds-same_bytes-end-2
+    same_bytes-requires
+    shape_of-out-then-same_bytes
+    returns-then-same_bytes
     clear-requires
-    same-length-3
-    returns-3)
+    shape_of-out
+    returns)

@@ -11,11 +11,11 @@ use Rattle.cipher.proofs.decrypt_empty.Statement.{statement}
 use Rattle.cipher.proofs.decrypt_empty.Tie as tie
 
 -- each call, from the one after it
-abbrev compared : tie.After-clear → tie.After-same-bytes
+abbrev compared : tie.After-clear → tie.After-same_bytes-right
 compared c = c.before.before
 
-abbrev filled : tie.After-same-bytes → tie.After-prf
-filled c = c.before.before.before.before
+abbrev filled : tie.After-same_bytes-right → tie.After-prf
+filled c = c.before.before.before
 
 abbrev start : tie.After-prf → tie.Start
 start c = c.before.before.before.before
@@ -26,25 +26,30 @@ C s = s.args.sealed.now
 prf-requires : tie.Need-prf-requires
 prf-requires c κs = search rules
 
-same-bytes-requires : tie.Need-same-bytes-requires
-same-bytes-requires c κs = search rules
+same_bytes-right-requires : tie.Need-same_bytes-right-requires
+same_bytes-right-requires c κs = search rules
 
 clear-requires : tie.Need-clear-requires
 clear-requires c κs = search rules
 
-same_length : tie.Need-same-length
-same_length c = search rules
+shape_of-out : tie.Need-shape_of-out
+shape_of-out c = search rules
 
 returns : tie.Need-returns
 returns c =
     let cleared = c.before.before in
-    let same = (compared cleared).same_bytes in
+    let same = (compared cleared).same_bytes-right in
     let fill = (filled (compared cleared)).prf in
     let s = start (filled (compared cleared)) in (
-      empty_opens (E (blocks s.args.k)) s.args.delta (length (C s)) (C s) fill.last.1.1.0 (length s.args.out.now) same.result refl s.pre.1 fill.ensures same.ensures,
-      cleared.clear.ensures ∙ ap (λ (n : ℕ). replicate n 0) fill.kept.1.1.0,
+      empty_opens (E (blocks s.args.k)) s.args.delta (length (C s)) (C s) fill.new.out (length s.args.out.now) same.result refl s.requires.1 fill.ensures same.ensures,
+      cleared.clear.ensures ∙ ap (λ (n : ℕ). replicate n 0) fill.auto.out,
     )
 
 pub decrypt_empty_spec : {M : Type 1} → statement M
 decrypt_empty_spec =
-    tie.close (tie.spec prf-requires same-bytes-requires clear-requires same_length returns)
+    tie.close (tie.spec
+    prf-requires
+    same_bytes-right-requires
+    clear-requires
+    shape_of-out
+    returns)

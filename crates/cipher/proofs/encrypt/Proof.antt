@@ -17,73 +17,73 @@ abbrev out : tie.Start → Bytes
 out s = s.args.out.now
 
 -- each call, from the one after it
-abbrev cleared : tie.After-cipher-in-place → tie.After-clear
+abbrev cleared : tie.After-cipher_in_place → tie.After-clear
 cleared c = c.before.before.before.before
 
 abbrev copied : tie.After-clear → tie.After-copy
 copied c = c.before.before.before.before
 
-abbrev some_text : tie.After-copy → tie.Else1
+abbrev some_text : tie.After-copy → tie.Else-n-eq0
 some_text c = c.before.before
 
-abbrev no_text : tie.After-prf → tie.Then1
+abbrev no_text : tie.After-prf → tie.Then-n-eq0
 no_text c = c.before.before
 
 prf-requires : tie.Need-prf-requires
 prf-requires c κs = search rules
 
-same_length : tie.Need-same-length
-same_length c = search rules
+shape_of-out-then-n-eq0 : tie.Need-shape_of-out-then-n-eq0
+shape_of-out-then-n-eq0 c = search rules
 
-returns : tie.Need-returns
-returns c =
+returns-then-n-eq0 : tie.Need-returns-then-n-eq0
+returns-then-n-eq0 c =
     let fill = c.before.before in
     let none = no_text fill in
     let s = none.before.before.before in
-    seals_none (f s) s.args.delta (M s) (out s) fill.prf.new.1.1.0 none.if1.taken fill.prf.ensures
+    seals_none (f s) s.args.delta (M s) (out s) fill.prf.new.out none.if-n-eq0.true fill.prf.ensures
 
 copy-requires : tie.Need-copy-requires
 copy-requires c κs = search rules
 
-sub-clear : tie.Need-overflow-sub-clear
-sub-clear c = search rules
+slice_bounds-clear-count : tie.Need-slice_bounds-clear-count
+slice_bounds-clear-count c = search rules
 
-part-clear-start : tie.Need-slice-bounds-clear-start
-part-clear-start c = search rules
+slice_bounds-clear-start : tie.Need-slice_bounds-clear-start
+slice_bounds-clear-start c = search rules
 
-part-clear-end : tie.Need-slice-bounds-clear-end
-part-clear-end c = search rules
+slice_bounds-clear-end : tie.Need-slice_bounds-clear-end
+slice_bounds-clear-end c = search rules
 
 clear-requires : tie.Need-clear-requires
 clear-requires c κs = search rules
 
-cipher-in-place-requires : tie.Need-cipher-in-place-requires
-cipher-in-place-requires c κs = search rules
+cipher_in_place-requires : tie.Need-cipher_in_place-requires
+cipher_in_place-requires c κs = search rules
 
-same-length-2 : tie.Need-same-length-2
-same-length-2 c = search rules
+shape_of-out : tie.Need-shape_of-out
+shape_of-out c = search rules
 
-returns-2 : tie.Need-returns-2
-returns-2 c =
+returns : tie.Need-returns
+returns c =
     let sealed = c.before.before in
     let clear = (cleared sealed).clear in
     let copy = (copied (cleared sealed)).copy in
     let some = some_text (copied (cleared sealed)) in
     let s = some.before.before.before in
-    seals_some (f s) s.args.delta (M s) (out s) copy.last.0 clear.last.0 sealed.cipher-in-place.new.1.1.1.0 s.pre.1 some.if1.left copy.ensures clear.ensures sealed.cipher-in-place.ensures
+    seals_some (f s) s.args.delta (M s) (out s) copy.new.s clear.new.s sealed.cipher_in_place.new.s s.requires.1 some.if-n-eq0.false copy.ensures clear.ensures sealed.cipher_in_place.ensures
 
 pub encrypt_spec : {M : Type 1} → statement M
 encrypt_spec =
     tie.close
     (tie.spec
     prf-requires
-    same_length
-    returns
+    shape_of-out-then-n-eq0
+    returns-then-n-eq0
     copy-requires
-    sub-clear
-    part-clear-start
-    part-clear-end
+    slice_bounds-clear-count
+    slice_bounds-clear-start
+    slice_bounds-clear-end
     clear-requires
-    cipher-in-place-requires
-    same-length-2
-    returns-2)
+    cipher_in_place-requires
+    shape_of-out
+    returns)

@@ -6,33 +6,38 @@ use Rattle.record.proofs.Parts.{part_fits, part_is}
 use Rattle.record.proofs.open_part.Statement.{statement}
 use Rattle.record.proofs.open_part.Tie as tie
 
-abbrev start : tie.After-open → tie.Start
+abbrev start : tie.After-open-answer → tie.Start
 start c = c.before.before.before.before.before.before
 
 -- what opening left in the output
-abbrev last : tie.After-open → Bytes
-last c = c.«open».new.1.1.1.1.0
+abbrev last : tie.After-open-answer → Bytes
+last c = c.open-answer.new.out
 
-open-requires : tie.Need-open-requires
-open-requires c κs = search rules
+open-answer-requires : tie.Need-open-answer-requires
+open-answer-requires c κs = search rules
 
-sub-result : tie.Need-overflow-sub-result
-sub-result c = search rules
+slice_bounds-result-count : tie.Need-slice_bounds-result-count
+slice_bounds-result-count c = search rules
 
-part-out-start : tie.Need-slice-bounds-out-start
-part-out-start c = search rules
+slice_bounds-out-start : tie.Need-slice_bounds-out-start
+slice_bounds-out-start c = search rules
 
-part-out-end : tie.Need-slice-bounds-out-end
-part-out-end c =
+slice_bounds-out-end : tie.Need-slice_bounds-out-end
+slice_bounds-out-end c =
     let o = c.before.before in
     let a = (start o).args in
-    part_fits a.key.now a.header.now a.stretch.0 a.sealed.now a.out.now o.«open».result (last o) o.«open».ensures
+    part_fits a.key.now a.header.now a.stretch.0 a.sealed.now a.out.now o.open-answer.result (last o) o.open-answer.ensures
 
 returns : tie.Need-returns
 returns c =
     let o = c.before.before.before in
     let a = (start o).args in
-    (rw zero-add, part_is a.key.now a.header.now a.stretch.0 a.sealed.now a.out.now o.«open».result (last o) o.«open».ensures)
+    (rw zero-add, part_is a.key.now a.header.now a.stretch.0 a.sealed.now a.out.now o.open-answer.result (last o) o.open-answer.ensures)
 
 pub open_part_spec : {M : Type 1} → statement M
-open_part_spec = tie.close (tie.spec open-requires sub-result part-out-start part-out-end returns)
+open_part_spec = tie.close (tie.spec
+    open-answer-requires
+    slice_bounds-result-count
+    slice_bounds-out-start
+    slice_bounds-out-end
+    returns)

@@ -10,87 +10,87 @@ use Rattle.record.proofs.Whole.{lent_long, seals}
 use Rattle.record.proofs.seal.Statement.{statement}
 use Rattle.record.proofs.seal.Tie as tie
 
-abbrev start : tie.After-settled-sealing → tie.Start
+abbrev start : tie.After-settled_sealing-refused → tie.Start
 start c = c.before.before.before.before.before
 
 -- once the answer is settled: each call, from the one after it
-abbrev settled : tie.After-delta → tie.Else1
+abbrev settled : tie.After-delta-delta → tie.Else-refused-ne0
 settled c = c.before.before.before
 
-abbrev keyed : tie.After-encrypt → tie.After-delta
+abbrev keyed : tie.After-encrypt → tie.After-delta-delta
 keyed c = c.before.before
 
-fits : (c : tie.Else1) → let a = (start c.before.before).args in Fits a.key.now a.header.now a.stretch.0 (length a.text.now) (length a.out.now)
+fits : (c : tie.Else-refused-ne0) → let a = (start c.before.before).args in Fits a.key.now a.header.now a.stretch.0 (length a.text.now) (length a.out.now)
 fits c =
-    let n = c.before.before.settled-sealing in
+    let n = c.settled_sealing-refused in
     let a = (start c.before.before).args in
-    sealing_fits a.key.now a.header.now a.stretch.0 (length a.text.now) (length a.out.now) n.result n.ensures c.if1.false
+    sealing_fits a.key.now a.header.now a.stretch.0 (length a.text.now) (length a.out.now) n.result n.ensures c.if-refused-ne0.false
 
-settled-sealing-requires : tie.Need-settled-sealing-requires
-settled-sealing-requires c κs = search rules
+settled_sealing-refused-requires : tie.Need-settled_sealing-refused-requires
+settled_sealing-refused-requires c κs = search rules
 
-returns : tie.Need-returns
-returns c =
-    let n = c.before.before.settled-sealing in
+returns-then-refused-ne0 : tie.Need-returns-then-refused-ne0
+returns-then-refused-ne0 c =
+    let n = c.settled_sealing-refused in
     let a = (start c.before.before).args in
-    sym (sealing_refused a.key.now a.header.now a.stretch.0 a.text.now a.out.now n.result n.ensures c.if1.true)
+    sym (sealing_refused a.key.now a.header.now a.stretch.0 a.text.now a.out.now n.result n.ensures c.if-refused-ne0.true)
 
-key-of-requires : tie.Need-key-of-requires
-key-of-requires c κs = (fits c).common.key_long
+key_of-k-requires : tie.Need-key_of-k-requires
+key_of-k-requires c κs = (fits c).common.key_long
 
 bits-requires : tie.Need-bits-requires
 bits-requires c κs = (fits c.before).common.short
 
-delta-requires : tie.Need-delta-requires
-delta-requires c κs = search rules
+delta-delta-requires : tie.Need-delta-delta-requires
+delta-delta-requires c κs = search rules
 
-add-length : tie.Need-overflow-add-length
-add-length c = omega (arith, (fits (settled c)).within)
+overflow_add-length : tie.Need-overflow_add-length
+overflow_add-length c = omega (arith, (fits (settled c)).within)
 
-sub-encrypt : tie.Need-overflow-sub-encrypt
-sub-encrypt c = search rules
+slice_bounds-encrypt-count : tie.Need-slice_bounds-encrypt-count
+slice_bounds-encrypt-count c = search rules
 
-part-encrypt-start : tie.Need-slice-bounds-encrypt-start
-part-encrypt-start c = search rules
+slice_bounds-encrypt-start : tie.Need-slice_bounds-encrypt-start
+slice_bounds-encrypt-start c = search rules
 
-part-encrypt-end : tie.Need-slice-bounds-encrypt-end
-part-encrypt-end c = (fits (settled c)).has_room
+slice_bounds-encrypt-end : tie.Need-slice_bounds-encrypt-end
+slice_bounds-encrypt-end c = (fits (settled c)).has_room
 
 encrypt-requires : tie.Need-encrypt-requires
 encrypt-requires c κs =
     let e = settled c.before in
     let a = (start e.before.before).args in
     let long = lent_long a.out.now (length a.text.now + a.stretch.0) (fits e).has_room in
-    let kept = c.before.before.before.key_of.ensures.1 in
+    let kept = c.key_of-k.ensures.1 in
     (kept, omega (arith, long), omega (arith, long, (fits e).within), omega (arith, long, (fits e).common.short))
 
-same_length : tie.Need-same-length
-same_length c = search rules
+shape_of-out : tie.Need-shape_of-out
+shape_of-out c = search rules
 
-returns-2 : tie.Need-returns-2
-returns-2 c =
+returns : tie.Need-returns
+returns c =
     let w = c.before.before in
     let d = keyed w in
     let e = settled d in
-    let n = e.before.before.settled-sealing in
+    let n = e.settled_sealing-refused in
     let a = (start e.before.before).args in
-    let k = d.before.before.key_of in
-    seals a.key.now a.header.now a.out.now w.encrypt.new.1.1.1.0 a.stretch.0 (blocks k.result) k.ensures.0 d.before.bits.result.0 d.before.bits.ensures d.delta.result d.delta.ensures
-    a.text.now n.result n.ensures e.if1.left w.encrypt.ensures w.encrypt.auto.1.1.1.0
+    let k = d.key_of-k in
+    seals a.key.now a.header.now a.out.now w.encrypt.new.out a.stretch.0 (blocks k.result) k.ensures.0 d.bits.result.0 d.bits.ensures d.delta-delta.result d.delta-delta.ensures
+    a.text.now n.result n.ensures e.if-refused-ne0.false w.encrypt.ensures w.encrypt.auto.out
 
 pub seal_spec : {M : Type 1} → statement M
 seal_spec =
     tie.close
     (tie.spec
-    settled-sealing-requires
-    returns
-    key-of-requires
+    settled_sealing-refused-requires
+    returns-then-refused-ne0
+    key_of-k-requires
     bits-requires
-    delta-requires
-    add-length
-    sub-encrypt
-    part-encrypt-start
-    part-encrypt-end
+    delta-delta-requires
+    overflow_add-length
+    slice_bounds-encrypt-count
+    slice_bounds-encrypt-start
+    slice_bounds-encrypt-end
     encrypt-requires
-    same_length
-    returns-2)
+    shape_of-out
+    returns)

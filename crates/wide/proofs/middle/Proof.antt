@@ -32,7 +32,7 @@ xor-b-requires c κs = search rules
 
 added-sx-requires : tie.Need-added-sx-requires
 added-sx-requires c κs =
-    let i : tie.After-pairs_of-i = indices c in
+    let i : tie.After-pairs_of-i = indices c.before in
     let s = start i in
     let way = s.args.way in
     (plain_of way i.pairs_of-i.result i.pairs_of-i.ensures (λ (e : EndPairs). e.x) (first_small way), s.requires.1)

@@ -18,7 +18,7 @@ pairs_of-i-requires c κs = search rules
 
 added-cy-requires : tie.Need-added-cy-requires
 added-cy-requires c κs =
-    let s = start c in
+    let s = start c.before in
     let way = s.args.way in
     (plain_of way c.pairs_of-i.result c.pairs_of-i.ensures (λ (e : EndPairs). e.yy) (second_small way), s.requires.1)
 
