@@ -11,37 +11,37 @@ use Rattle.day_find.specs.Finds.{records_in}
 use Rattle.day_find.proofs.Finding.{Stands, stands}
 use Rattle.day_open.proofs.Opens.{opens_unread, checked_records, opens_absent, opens_found}
 use borrow.Author.Rules.{rules}
-use Rattle.day_open.proofs.open.Statement.{statement}
-use Rattle.day_open.proofs.open.Tie as tie
+use Rattle.day_open.proofs.«open».Statement.{statement}
+use Rattle.day_open.proofs.«open».Tie as tie
 
 abbrev start : tie.After-check → tie.Start
 start c = c.before.before.before.before
 
 -- the file reads
-module _ (c : tie.After-known-told) where
+module _ (c : tie.In-Day) where
   abbrev checked_file : tie.After-check
-  checked_file = c.before.before.before
+  checked_file = c.before
 
   abbrev f : Bytes
   f = (start checked_file).args.file.now
 
   low : Below 256 f
-  low = below_of 256 f (λ i p. omega (arith, checked_file.before.before.shared-slice-known2.given i))
+  low = below_of 256 f (λ i p. omega (arith, checked_file.shared_slice_known-2-1.given i))
 
   abbrev headers : ℕ
-  headers = c.before.records.given.0.0
+  headers = c.in-Day.headers
 
   abbrev records : ℕ
-  records = c.before.records.given.0.1.0
+  records = c.in-Day.records
 
   abbrev first : ℕ
-  first = c.before.records.given.0.1.1.0
+  first = c.in-Day.first
 
   reads : checked.Day headers records first ≡ checked_as (read_day f)
-  reads = sym c.before.records.given.1 ∙ checked_file.check.ensures
+  reads = sym c.in-Day.is ∙ checked_file.check.ensures
 
 -- and has the record
-module _ (c : tie.Else1) where
+module _ (c : tie.Else-records-k) where
   abbrev k : ℕ
   k = (start (checked_file c.before)).args.k
 
@@ -49,80 +49,80 @@ module _ (c : tie.Else1) where
   many = checked_records (read_day (f c.before)) (headers c.before) (records c.before) (first c.before) (reads c.before)
 
   there : Stands (f c.before) (records c.before) k
-  there = stands (f c.before) (low c.before) (records c.before) k many c.if1.false
+  there = stands (f c.before) (low c.before) (records c.before) k many c.if-records-k.false
 
 check-requires : tie.Need-check-requires
 check-requires c κs = search rules
 
-enum-known-records : tie.Need-enum-known-records
-enum-known-records c = search rules
+enum_known-records : tie.Need-enum_known-records
+enum_known-records c = search rules
 
-enum_told : tie.Need-enum-told
-enum_told c = search rules
+enum_told-1 : tie.Need-enum_told-1
+enum_told-1 c = search rules
+
+returns-in_default : tie.Need-returns-in_default
+returns-in_default c =
+    let h = c.before in
+    let a = (start h).args in
+    opens_unread a.key.now a.file.now a.k a.out.now (rw c.in_default.is at h.check.ensures)
+
+returns-then-records-k : tie.Need-returns-then-records-k
+returns-then-records-k c =
+    let t = c.before in
+    let a = (start (checked_file t)).args in
+    opens_absent a.key.now a.file.now a.k a.out.now (headers t) (records t) (first t) (reads t) c.if-records-k.true
+
+find-f-requires : tie.Need-find-f-requires
+find-f-requires c κs = (many c, c.if-records-k.false)
+
+slice_bounds-open-count : tie.Need-slice_bounds-open-count
+slice_bounds-open-count c = omega arith
+
+slice_bounds-open-start : tie.Need-slice_bounds-open-start
+slice_bounds-open-start c = omega arith
+
+slice_bounds-open-end : tie.Need-slice_bounds-open-end
+slice_bounds-open-end c = omega arith
+
+slice_bounds-open-count-2 : tie.Need-slice_bounds-open-count-2
+slice_bounds-open-count-2 c = omega arith
+
+slice_bounds-open-start-2 : tie.Need-slice_bounds-open-start-2
+slice_bounds-open-start-2 c = omega arith
+
+slice_bounds-open-end-2 : tie.Need-slice_bounds-open-end-2
+slice_bounds-open-end-2 c = omega arith
+
+open-answer-requires : tie.Need-open-answer-requires
+open-answer-requires c κs = search rules
+
+shape_of-out : tie.Need-shape_of-out
+shape_of-out c = search rules
 
 returns : tie.Need-returns
 returns c =
-    let h = c.before.before in
-    let a = (start h).args in
-    opens_unread a.key.now a.file.now a.k a.out.now (rw c.enum_told.given.1 at h.check.ensures)
-
-returns-2 : tie.Need-returns-2
-returns-2 c =
-    let t = c.before in
-    let a = (start (checked_file t)).args in
-    opens_absent a.key.now a.file.now a.k a.out.now (headers t) (records t) (first t) (reads t) c.if1.true
-
-find-requires : tie.Need-find-requires
-find-requires c κs = (many c, c.if1.false)
-
-sub_open : tie.Need-overflow-sub-open
-sub_open c = omega arith
-
-part-open-start : tie.Need-slice-bounds-open-start
-part-open-start c = omega arith
-
-part-open-end : tie.Need-slice-bounds-open-end
-part-open-end c = omega arith
-
-sub-open-2 : tie.Need-overflow-sub-open-2
-sub-open-2 c = omega arith
-
-part-open-start-2 : tie.Need-slice-bounds-open-start-2
-part-open-start-2 c = omega arith
-
-part-open-end-2 : tie.Need-slice-bounds-open-end-2
-part-open-end-2 c = omega arith
-
-open-requires : tie.Need-open-requires
-open-requires c κs = search rules
-
-same_length : tie.Need-same-length
-same_length c = search rules
-
-returns-3 : tie.Need-returns-3
-returns-3 c =
     let o = c.before.before in
     let found = o.before.before.before.before in
     let e = found.before in
     let a = (start (checked_file e.before)).args in
-    opens_found a.key.now a.file.now (low e.before) (records e.before) a.k (there e) found.find.result found.find.ensures.0 o.«open».result o.«open».new.1.1.1.1.0 a.out.now o.«open».ensures
+    opens_found a.key.now a.file.now (low e.before) (records e.before) a.k (there e) found.find-f.result found.find-f.ensures.0 o.open-answer.result o.open-answer.new.out a.out.now o.open-answer.ensures
 
 pub open_spec : {M : Type 1} → statement M
 open_spec =
     tie.close
     (tie.spec
     check-requires
-    enum-known-records
-    enum_told
-    returns
-    returns-2
-    find-requires
-    sub_open
-    part-open-start
-    part-open-end
-    sub-open-2
-    part-open-start-2
-    part-open-end-2
-    open-requires
-    same_length
-    returns-3)
+    enum_known-records
+    enum_told-1
+    returns-in_default
+    returns-then-records-k
+    find-f-requires
+    slice_bounds-open-count
+    slice_bounds-open-start
+    slice_bounds-open-end
+    slice_bounds-open-count-2
+    slice_bounds-open-start-2
+    slice_bounds-open-end-2
+    open-answer-requires
+    shape_of-out
+    returns)

@@ -15,7 +15,7 @@ use Rattle.ledger.proofs.figures.Statement.{statement}
 use Rattle.ledger.proofs.figures.Tie as tie
 
 module _ (c : tie.After-reported) where
-  abbrev known : tie.After-shared-slice-known2
+  abbrev known : tie.After-shared_slice_known-2-1
   known = c.before.before
 
   abbrev start : tie.Start
@@ -31,66 +31,66 @@ module _ (c : tie.After-reported) where
   out = start.args.out.now
 
 -- there is a report
-module _ (c : tie.After-known-told2) where
-  abbrev matched : tie.At-match-keys2
-  matched = c.before.before
+module _ (c : tie.In-Is) where
+  abbrev matched : tie.In-Is
+  matched = c
 
   abbrev told_it : tie.After-reported
   told_it = matched.before
 
   abbrev r : Report
-  r = c.before.r.given.0.0
+  r = c.in-Is.r
 
   is : told.Is r ≡ reported_as (key told_it) (o told_it)
-  is = sym c.before.r.given.1 ∙ told_it.reported.ensures
+  is = sym c.in-Is.is ∙ told_it.reported.ensures
 
 reported-requires : tie.Need-reported-requires
 reported-requires c κs = search rules
 
-enum-known-number : tie.Need-enum-known-number
-enum-known-number c = search rules
+enum_known-number : tie.Need-enum_known-number
+enum_known-number c = search rules
 
-enum-known-r : tie.Need-enum-known-r
-enum-known-r c = search rules
+enum_known-r : tie.Need-enum_known-r
+enum_known-r c = search rules
 
-returns : tie.Need-returns
+returns-then-out-lt6 : tie.Need-returns-then-out-lt6
 unfolding reporting_figures figures_of
-returns c =
+returns-then-out-lt6 c =
     let t = c.before in
     let u = told_it t in
-    no_room figures_of (key u) (out u) (o u) (r t) (is t) c.if1.true
+    no_room figures_of (key u) (out u) (o u) (r t) (is t) c.if-out-lt6.true
 
-put-figures-requires : tie.Need-put-figures-requires
-put-figures-requires c κs = search rules
+put_figures-requires : tie.Need-put_figures-requires
+put_figures-requires c κs = search rules
 
-returns-2 : tie.Need-returns-2
+returns-in-Refused : tie.Need-returns-in-Refused
 unfolding reporting_figures figures_of
-returns-2 c =
-    let n = c.before in
-    let u = n.before.before in
-    refusal figures_of (key u) (out u) (o u) n.number.given.0.0 (sym n.number.given.1 ∙ u.reported.ensures)
+returns-in-Refused c =
+    let n = c in
+    let u = n.before in
+    refusal figures_of (key u) (out u) (o u) n.in-Refused.number (sym n.in-Refused.is ∙ u.reported.ensures)
 
-same_length : tie.Need-same-length
-same_length c = search rules
+shape_of-out : tie.Need-shape_of-out
+shape_of-out c = search rules
 
-returns-3 : tie.Need-returns-3
+returns-else-out-lt6 : tie.Need-returns-else-out-lt6
 unfolding reporting_figures figures_of
-returns-3 c =
+returns-else-out-lt6 c =
     let p = c.before.before in
     let e = p.before.before in
     let t = e.before in
     let u = told_it t in
-    written figures_of (key u) (out u) (o u) (r t) (is t) 6 p.put-figures.new.1.0 refl e.if1.false p.put-figures.ensures
+    written figures_of (key u) (out u) (o u) (r t) (is t) 6 p.put_figures.new.out refl e.if-out-lt6.false p.put_figures.ensures
 
 pub figures_spec : {M : Type 1} → statement M
 figures_spec =
     tie.close
     (tie.spec
     reported-requires
-    enum-known-number
-    enum-known-r
-    returns
-    put-figures-requires
-    returns-2
-    same_length
-    returns-3)
+    enum_known-number
+    enum_known-r
+    returns-then-out-lt6
+    put_figures-requires
+    returns-in-Refused
+    shape_of-out
+    returns-else-out-lt6)

@@ -14,11 +14,11 @@ use Rattle.ledger.proofs.open_in.Statement.{statement}
 use Rattle.ledger.proofs.open_in.Tie as tie
 
 -- once the string was opened
-module _ (c : tie.After-open) where
-  abbrev lent : tie.After-slice-known
+module _ (c : tie.After-open-answer) where
+  abbrev lent : tie.After-slice_known-1
   lent = c.before.before
 
-  abbrev known : tie.After-shared-slice-known2
+  abbrev known : tie.After-shared_slice_known-2-1
   known = lent.before.before
 
   abbrev start : tie.Start
@@ -40,79 +40,79 @@ module _ (c : tie.After-open) where
   out = start.args.out.now
 
   abbrev last : Bytes
-  last = c.«open».new.1.1.1.1.0
+  last = c.open-answer.new.out
 
   key_low : Below 256 key
-  key_low = below_of 256 key (λ i p. omega (arith, known.before.shared-slice-known.given i))
+  key_low = below_of 256 key (λ i p. omega (arith, known.shared_slice_known-1.given i))
 
   header_low : Below 256 header
-  header_low = below_of 256 header (λ i p. omega (arith, known.shared-slice-known2.given i))
+  header_low = below_of 256 header (λ i p. omega (arith, known.shared_slice_known-2-1.given i))
 
   sealed_low : Below 256 sealed
-  sealed_low = below_of 256 sealed (λ i p. omega (arith, lent.before.shared-slice-known3.given i))
+  sealed_low = below_of 256 sealed (λ i p. omega (arith, lent.shared_slice_known-3-1.given i))
 
   -- the text lies within the output
-  inside : c.«open».result.number ≡ 0 → c.«open».result.length ≤ length last
+  inside : c.open-answer.result.number ≡ 0 → c.open-answer.result.length ≤ length last
   inside z =
-      let e = c.«open».ensures in
+      let e = c.open-answer.ensures in
       let x : Text t sealed (opening key header t sealed out) = opened_text key header t sealed out key_low header_low sealed_low (sym (ap (λ (o : OutcomeAt). o.number) e) ∙ z) in
       omega
-      (arith, ap (λ (o : OutcomeAt). o.size) e, x.size, x.long, ap length start.pre.1, length-replicate {A = ℕ} (length sealed) 0, c.«open».auto.1.1.1.1.0)
+      (arith, ap (λ (o : OutcomeAt). o.size) e, x.size, x.long, ap length start.requires.1, length-replicate {A = ℕ} (length sealed) 0, c.open-answer.auto.out)
 
-abbrev returned : tie.After-struct-known → tie.After-out
+abbrev returned : tie.After-struct_known-1 → tie.After-out-1
 returned c = c.before.before
 
-abbrev opened : tie.After-struct-known → tie.After-open
+abbrev opened : tie.After-struct_known-1 → tie.After-open-answer
 opened c = (returned c).before
 
-abbrev text_lent : tie.After-read-text → tie.After-out2
-text_lent c = c.before.before
+abbrev accepted : tie.After-read_text → tie.Else-answer-ne0
+accepted c = c.before.before
 
-open-requires : tie.Need-open-requires
-open-requires c κs = search rules
+open-answer-requires : tie.Need-open-answer-requires
+open-answer-requires c κs = search rules
 
-same_length : tie.Need-same-length
-same_length c = search rules
+shape_of-out-then-answer-ne0 : tie.Need-shape_of-out-then-answer-ne0
+shape_of-out-then-answer-ne0 c = search rules
+
+returns-then-answer-ne0 : tie.Need-returns-then-answer-ne0
+returns-then-answer-ne0 c =
+    let o = opened c.before in
+    no_text (key o) (header o) (t o) (sealed o) o.open-answer.result (last o) (out o) (start o).requires.1 o.open-answer.ensures c.if-answer-ne0.true
+
+slice_bounds-read_text-count : tie.Need-slice_bounds-read_text-count
+slice_bounds-read_text-count c = search rules
+
+slice_bounds-read_text-start : tie.Need-slice_bounds-read_text-start
+slice_bounds-read_text-start c = search rules
+
+slice_bounds-read_text-end : tie.Need-slice_bounds-read_text-end
+slice_bounds-read_text-end c = inside (opened c.before) c.if-answer-ne0.false
+
+read_text-requires : tie.Need-read_text-requires
+read_text-requires c κs = search rules
+
+shape_of-out : tie.Need-shape_of-out
+shape_of-out c = search rules
 
 returns : tie.Need-returns
 returns c =
-    let o = opened c.before in
-    no_text (key o) (header o) (t o) (sealed o) o.«open».result (last o) (out o) (start o).pre.1 o.«open».ensures c.if1.true
-
-sub-read-text : tie.Need-overflow-sub-read-text
-sub-read-text c = search rules
-
-part-read-text-start : tie.Need-slice-bounds-read-text-start
-part-read-text-start c = search rules
-
-part-read-text-end : tie.Need-slice-bounds-read-text-end
-part-read-text-end c = let e = c.before in inside (opened e.before) e.if1.false
-
-read-text-requires : tie.Need-read-text-requires
-read-text-requires c κs = search rules
-
-same-length-2 : tie.Need-same-length-2
-same-length-2 c = search rules
-
-returns-2 : tie.Need-returns-2
-returns-2 c =
-    let e = (text_lent c).before in
+    let e = accepted c in
     let o = opened e.before in
-    let n = o.«open».result.length in
-    c.read-text.ensures
-    ∙ by_text (key o) (header o) (t o) (sealed o) o.«open».result (last o) (out o) (start o).pre.1 o.«open».ensures e.if1.left (start o).args.mark (start o).pre.0 _
+    let n = o.open-answer.result.length in
+    c.read_text.ensures
+    ∙ by_text (key o) (header o) (t o) (sealed o) o.open-answer.result (last o) (out o) (start o).requires.1 o.open-answer.ensures e.if-answer-ne0.false (start o).args.mark (start o).requires.0 _
     (ap (λ (k : ℕ). take k (last o)) (sub-zero n))
 
 pub open_in_spec : {M : Type 1} → statement M
 open_in_spec =
     tie.close
     (tie.spec
-    open-requires
-    same_length
-    returns
-    sub-read-text
-    part-read-text-start
-    part-read-text-end
-    read-text-requires
-    same-length-2
-    returns-2)
+    open-answer-requires
+    shape_of-out-then-answer-ne0
+    returns-then-answer-ne0
+    slice_bounds-read_text-count
+    slice_bounds-read_text-start
+    slice_bounds-read_text-end
+    read_text-requires
+    shape_of-out
+    returns)

@@ -10,62 +10,62 @@ use borrow.Author.Rules.{rules}
 use Rattle.ledger.proofs.pause_at.Statement.{statement}
 use Rattle.ledger.proofs.pause_at.Tie as tie
 
-abbrev known : tie.After-find → tie.After-shared-slice-known
+abbrev known : tie.After-find-f → tie.After-shared_slice_known-1
 known c = c.before.before
 
-abbrev start : tie.After-find → tie.Start
+abbrev start : tie.After-find-f → tie.Start
 start c = (known c).before
 
-abbrev found : tie.After-pause-of-arg2 → tie.After-find
+abbrev found : tie.After-pause_of-arg-2-1 → tie.After-find-f
 found c = c.before.before
 
-low : (c : tie.After-find) → Below 256 (start c).args.file.now
-low c = below_of 256 (start c).args.file.now (λ i p. omega (arith, c.before.shared-slice-known2.given i))
+low : (c : tie.After-find-f) → Below 256 (start c).args.file.now
+low c = below_of 256 (start c).args.file.now (λ i p. omega (arith, c.shared_slice_known-2-1.given i))
 
-there : (c : tie.After-find) → Stands (start c).args.file.now (start c).args.records (start c).args.k
+there : (c : tie.After-find-f) → Stands (start c).args.file.now (start c).args.records (start c).args.k
 there c = let a = (start c).args in stands a.file.now (low c) a.records a.k (start c).requires.1 (start c).requires.2
 
-find-requires : tie.Need-find-requires
-find-requires c κs = search rules
+find-f-requires : tie.Need-find-f-requires
+find-f-requires c κs = search rules
 
-sub-pause-of : tie.Need-overflow-sub-pause-of
-sub-pause-of c = search rules
+slice_bounds-pause_of-count : tie.Need-slice_bounds-pause_of-count
+slice_bounds-pause_of-count c = search rules
 
-part-pause-of-start : tie.Need-slice-bounds-pause-of-start
-part-pause-of-start c = search rules
+slice_bounds-pause_of-start : tie.Need-slice_bounds-pause_of-start
+slice_bounds-pause_of-start c = search rules
 
-part-pause-of-end : tie.Need-slice-bounds-pause-of-end
-part-pause-of-end c = search rules
+slice_bounds-pause_of-end : tie.Need-slice_bounds-pause_of-end
+slice_bounds-pause_of-end c = search rules
 
-sub-pause-of-2 : tie.Need-overflow-sub-pause-of-2
-sub-pause-of-2 c = search rules
+slice_bounds-pause_of-count-2 : tie.Need-slice_bounds-pause_of-count-2
+slice_bounds-pause_of-count-2 c = search rules
 
-part-pause-of-start-2 : tie.Need-slice-bounds-pause-of-start-2
-part-pause-of-start-2 c = search rules
+slice_bounds-pause_of-start-2 : tie.Need-slice_bounds-pause_of-start-2
+slice_bounds-pause_of-start-2 c = search rules
 
-part-pause-of-end-2 : tie.Need-slice-bounds-pause-of-end-2
-part-pause-of-end-2 c = search rules
+slice_bounds-pause_of-end-2 : tie.Need-slice_bounds-pause_of-end-2
+slice_bounds-pause_of-end-2 c = search rules
 
-pause-of-requires : tie.Need-pause-of-requires
-pause-of-requires c κs = search rules
+pause_of-requires : tie.Need-pause_of-requires
+pause_of-requires c κs = search rules
 
 returns : tie.Need-returns
 returns c =
     let f = found c.before in
     let a = (start f).args in
-    c.pause-of.ensures
-    ∙ ap taken_as (found_pause a.key.now a.file.now (low f) a.records a.k (there f) f.find.result f.find.ensures.0)
+    c.pause_of.ensures
+    ∙ ap taken_as (found_pause a.key.now a.file.now (low f) a.records a.k (there f) f.find-f.result f.find-f.ensures.0)
 
 pub pause_at_spec : {M : Type 1} → statement M
 pause_at_spec =
     tie.close
     (tie.spec
-    find-requires
-    sub-pause-of
-    part-pause-of-start
-    part-pause-of-end
-    sub-pause-of-2
-    part-pause-of-start-2
-    part-pause-of-end-2
-    pause-of-requires
+    find-f-requires
+    slice_bounds-pause_of-count
+    slice_bounds-pause_of-start
+    slice_bounds-pause_of-end
+    slice_bounds-pause_of-count-2
+    slice_bounds-pause_of-start-2
+    slice_bounds-pause_of-end-2
+    pause_of-requires
     returns)

@@ -10,8 +10,8 @@ use Rattle.ledger.proofs.Taken.{no_locale, front_zeros}
 use Rattle.ledger.proofs.pause_of.Statement.{statement}
 use Rattle.ledger.proofs.pause_of.Tie as tie
 
-module _ (c : tie.After-shared-slice-known3) where
-  abbrev known : tie.After-shared-slice-known
+module _ (c : tie.After-shared_slice_known-3-1) where
+  abbrev known : tie.After-shared_slice_known-1
   known = c.before.before
 
   abbrev start : tie.Start
@@ -27,61 +27,60 @@ module _ (c : tie.After-shared-slice-known3) where
   sealed = start.args.sealed.now
 
   key_low : Below 256 key
-  key_low = below_of 256 key (λ i p. omega (arith, known.shared-slice-known.given i))
+  key_low = below_of 256 key (λ i p. omega (arith, known.shared_slice_known-1.given i))
 
   header_low : Below 256 header
-  header_low = below_of 256 header (λ i p. omega (arith, c.before.shared-slice-known2.given i))
+  header_low = below_of 256 header (λ i p. omega (arith, c.shared_slice_known-2-1.given i))
 
   sealed_low : Below 256 sealed
-  sealed_low = below_of 256 sealed (λ i p. omega (arith, c.shared-slice-known3.given i))
+  sealed_low = below_of 256 sealed (λ i p. omega (arith, c.shared_slice_known-3-1.given i))
+
+returns-then-n-gt80 : tie.Need-returns-then-n-gt80
+returns-then-n-gt80 c = let k = c.before in too_long_lem (key k) (header k) (start k).args.stretch (sealed k) (key_low k) (header_low k) (sealed_low k) c.if-n-gt80.true
+
+header_mark-requires : tie.Need-header_mark-requires
+header_mark-requires c κs = search rules
+
+enum_known-mark : tie.Need-enum_known-mark
+enum_known-mark c = search rules
+
+enum_told-1 : tie.Need-enum_told-1
+enum_told-1 c = search rules
+
+returns-in_default : tie.Need-returns-in_default
+returns-in_default c =
+    let m = c.before in
+    let k = m.before.before in
+    no_locale (key k) (header k) (start k).args.stretch (sealed k) _ (sym c.in_default.is ∙ m.header_mark.ensures)
+
+slice_bounds-open_in-count : tie.Need-slice_bounds-open_in-count
+slice_bounds-open_in-count c = search rules
+
+slice_bounds-buffer-start : tie.Need-slice_bounds-buffer-start
+slice_bounds-buffer-start c = search rules
+
+slice_bounds-buffer-end : tie.Need-slice_bounds-buffer-end
+slice_bounds-buffer-end c = search rules
+
+open_in-requires : tie.Need-open_in-requires
+open_in-requires c κs =
+    let m = c.before.before in
+    (sym c.in-Is.is ∙ m.header_mark.ensures, front_zeros (length (sealed m.before.before)) (omega arith))
 
 returns : tie.Need-returns
-returns c = let k = c.before in too_long_lem (key k) (header k) (start k).args.stretch (sealed k) (key_low k) (header_low k) (sealed_low k) c.if1.true
-
-header-mark-requires : tie.Need-header-mark-requires
-header-mark-requires c κs = search rules
-
-enum-known-mark : tie.Need-enum-known-mark
-enum-known-mark c = search rules
-
-enum_told : tie.Need-enum-told
-enum_told c = search rules
-
-returns-2 : tie.Need-returns-2
-returns-2 c =
-    let m = c.before.before in
-    let k = m.before.before in
-    no_locale (key k) (header k) (start k).args.stretch (sealed k) _ (sym c.enum_told.given.1 ∙ m.header-mark.ensures)
-
-sub-open-in : tie.Need-overflow-sub-open-in
-sub-open-in c = search rules
-
-part-buffer-start : tie.Need-slice-bounds-buffer-start
-part-buffer-start c = search rules
-
-part-buffer-end : tie.Need-slice-bounds-buffer-end
-part-buffer-end c = search rules
-
-open-in-requires : tie.Need-open-in-requires
-open-in-requires c κs =
-    let k = c.before.before in
-    let m = k.before.before in
-    (sym k.mark.given.1 ∙ m.header-mark.ensures, front_zeros (length (sealed m.before.before)) (omega arith))
-
-returns-3 : tie.Need-returns-3
-returns-3 c = search rules
+returns c = search rules
 
 pub pause_of_spec : {M : Type 1} → statement M
 pause_of_spec =
     tie.close
     (tie.spec
-    returns
-    header-mark-requires
-    enum-known-mark
-    enum_told
-    returns-2
-    sub-open-in
-    part-buffer-start
-    part-buffer-end
-    open-in-requires
-    returns-3)
+    returns-then-n-gt80
+    header_mark-requires
+    enum_known-mark
+    enum_told-1
+    returns-in_default
+    slice_bounds-open_in-count
+    slice_bounds-buffer-start
+    slice_bounds-buffer-end
+    open_in-requires
+    returns)

@@ -16,7 +16,7 @@ use Rattle.ledger.proofs.report.Statement.{statement}
 use Rattle.ledger.proofs.report.Tie as tie
 
 module _ (c : tie.After-reported) where
-  abbrev known : tie.After-shared-slice-known2
+  abbrev known : tie.After-shared_slice_known-2-1
   known = c.before.before
 
   abbrev start : tie.Start
@@ -32,72 +32,72 @@ module _ (c : tie.After-reported) where
   out = start.args.out.now
 
 -- there is a report
-module _ (c : tie.After-known-told2) where
-  abbrev matched : tie.At-match-keys2
-  matched = c.before.before
+module _ (c : tie.In-Is) where
+  abbrev matched : tie.In-Is
+  matched = c
 
   abbrev told_it : tie.After-reported
   told_it = matched.before
 
   abbrev r : Report
-  r = c.before.r.given.0.0
+  r = c.in-Is.r
 
   is : told.Is r ≡ reported_as (key told_it) (o told_it)
-  is = sym c.before.r.given.1 ∙ told_it.reported.ensures
+  is = sym c.in-Is.is ∙ told_it.reported.ensures
 
 reported-requires : tie.Need-reported-requires
 reported-requires c κs = search rules
 
-enum-known-number : tie.Need-enum-known-number
-enum-known-number c = search rules
+enum_known-number : tie.Need-enum_known-number
+enum_known-number c = search rules
 
-enum-known-r : tie.Need-enum-known-r
-enum-known-r c = search rules
+enum_known-r : tie.Need-enum_known-r
+enum_known-r c = search rules
 
-line-length-requires : tie.Need-line-length-requires
-line-length-requires c κs = search rules
+line_length-length-requires : tie.Need-line_length-length-requires
+line_length-length-requires c κs = search rules
 
-returns : tie.Need-returns
+returns-then-out-length : tie.Need-returns-then-out-length
 unfolding reporting
-returns c =
+returns-then-out-length c =
     let n = c.before in
     let t = n.before in
     let u = told_it t in
-    no_room line_of (key u) (out u) (o u) (r t) (is t) (omega (arith, n.line-length.ensures, c.if1.true))
+    no_room line_of (key u) (out u) (o u) (r t) (is t) (omega (arith, n.line_length-length.ensures, c.if-out-length.true))
 
-put-line-requires : tie.Need-put-line-requires
-put-line-requires c κs = let e = c.before in omega (arith, e.before.line-length.ensures, e.if1.false)
+put_line-requires : tie.Need-put_line-requires
+put_line-requires c κs = let e = c.before in omega (arith, e.line_length-length.ensures, e.if-out-length.false)
 
-returns-2 : tie.Need-returns-2
+returns-in-Refused : tie.Need-returns-in-Refused
 unfolding reporting
-returns-2 c =
-    let n = c.before in
-    let u = n.before.before in
-    refusal line_of (key u) (out u) (o u) n.number.given.0.0 (sym n.number.given.1 ∙ u.reported.ensures)
+returns-in-Refused c =
+    let n = c in
+    let u = n.before in
+    refusal line_of (key u) (out u) (o u) n.in-Refused.number (sym n.in-Refused.is ∙ u.reported.ensures)
 
-same_length : tie.Need-same-length
-same_length c = search rules
+shape_of-out : tie.Need-shape_of-out
+shape_of-out c = search rules
 
-returns-3 : tie.Need-returns-3
+returns-else-out-length : tie.Need-returns-else-out-length
 unfolding reporting
-returns-3 c =
+returns-else-out-length c =
     let p = c.before.before in
     let e = p.before.before in
     let n = e.before in
     let t = n.before in
     let u = told_it t in
-    written line_of (key u) (out u) (o u) (r t) (is t) n.line-length.result p.put-line.new.1.0 n.line-length.ensures (omega (arith, n.line-length.ensures, e.if1.false)) p.put-line.ensures
+    written line_of (key u) (out u) (o u) (r t) (is t) n.line_length-length.result p.put_line.new.out n.line_length-length.ensures (omega (arith, n.line_length-length.ensures, e.if-out-length.false)) p.put_line.ensures
 
 pub report_spec : {M : Type 1} → statement M
 report_spec =
     tie.close
     (tie.spec
     reported-requires
-    enum-known-number
-    enum-known-r
-    line-length-requires
-    returns
-    put-line-requires
-    returns-2
-    same_length
-    returns-3)
+    enum_known-number
+    enum_known-r
+    line_length-length-requires
+    returns-then-out-length
+    put_line-requires
+    returns-in-Refused
+    shape_of-out
+    returns-else-out-length)

@@ -12,19 +12,19 @@ use Rattle.ledger.proofs.Settled.{checked_headers, unread, no_key, is_report}
 use Rattle.ledger.proofs.reported.Statement.{statement}
 use Rattle.ledger.proofs.reported.Tie as tie
 
-abbrev known : tie.After-check → tie.After-shared-slice-known
+abbrev known : tie.After-check → tie.After-shared_slice_known-1
 known c = c.before.before
 
 abbrev start : tie.After-check → tie.Start
 start c = (known c).before
 
 -- the file reads
-module _ (c : tie.After-known-told) where
-  abbrev found : tie.After-headers
-  found = c.before
+module _ (c : tie.In-Day) where
+  abbrev found : tie.In-Day
+  found = c
 
   abbrev checked_file : tie.After-check
-  checked_file = found.before.before
+  checked_file = found.before
 
   abbrev key : Bytes
   key = (start checked_file).args.key.now
@@ -33,43 +33,50 @@ module _ (c : tie.After-known-told) where
   o = read_day (start checked_file).args.file.now
 
   abbrev headers : ℕ
-  headers = found.headers.given.0.0
+  headers = found.in-Day.headers
 
   abbrev records : ℕ
-  records = found.headers.given.0.1.0
+  records = found.in-Day.records
 
   abbrev first : ℕ
-  first = found.headers.given.0.1.1.0
+  first = found.in-Day.first
 
   reads : checked.Day headers records first ≡ checked_as o
-  reads = sym found.headers.given.1 ∙ checked_file.check.ensures
+  reads = sym found.in-Day.is ∙ checked_file.check.ensures
 
 check-requires : tie.Need-check-requires
 check-requires c κs = search rules
 
-enum-known-headers : tie.Need-enum-known-headers
-enum-known-headers c = search rules
+enum_known-headers : tie.Need-enum_known-headers
+enum_known-headers c = search rules
 
-enum_told : tie.Need-enum-told
-enum_told c = search rules
+enum_told-1 : tie.Need-enum_told-1
+enum_told-1 c = search rules
+
+returns-in_default : tie.Need-returns-in_default
+returns-in_default c =
+    let h = c.before in
+    let a = (start h).args in
+    unread a.key.now (read_day a.file.now) (sym c.in_default.is ∙ h.check.ensures)
+
+returns-then-key-ne48 : tie.Need-returns-then-key-ne48
+returns-then-key-ne48 c = let t = c.before in no_key (key t) (o t) (headers t) (records t) (first t) (reads t) c.if-key-ne48.true
+
+report_of-requires : tie.Need-report_of-requires
+report_of-requires c κs = let t = c.before in (checked_headers (o t) (headers t) (records t) (first t) (reads t), checked_records (o t) (headers t) (records t) (first t) (reads t))
 
 returns : tie.Need-returns
 returns c =
-    let h = c.before.before in
-    let a = (start h).args in
-    unread a.key.now (read_day a.file.now) (sym c.enum_told.given.1 ∙ h.check.ensures)
-
-returns-2 : tie.Need-returns-2
-returns-2 c = let t = c.before in no_key (key t) (o t) (headers t) (records t) (first t) (reads t) c.if1.true
-
-report-of-requires : tie.Need-report-of-requires
-report-of-requires c κs = let t = c.before in (checked_headers (o t) (headers t) (records t) (first t) (reads t), checked_records (o t) (headers t) (records t) (first t) (reads t))
-
-returns-3 : tie.Need-returns-3
-returns-3 c =
     let e = c.before in
     let t = e.before in
-    is_report (key t) (o t) (headers t) (records t) (first t) (reads t) e.if1.false c.report-of.result c.report-of.ensures
+    is_report (key t) (o t) (headers t) (records t) (first t) (reads t) e.if-key-ne48.false c.report_of.result c.report_of.ensures
 
 pub reported_spec : {M : Type 1} → statement M
-reported_spec = tie.close (tie.spec check-requires enum-known-headers enum_told returns returns-2 report-of-requires returns-3)
+reported_spec = tie.close (tie.spec
+    check-requires
+    enum_known-headers
+    enum_told-1
+    returns-in_default
+    returns-then-key-ne48
+    report_of-requires
+    returns)

@@ -15,24 +15,24 @@ use Rattle.ledger.proofs.Sums.{Added, none_added, all_added, one_added, pauses_a
 use Rattle.ledger.proofs.totals.Statement.{statement}
 use Rattle.ledger.proofs.totals.Tie as tie
 
-abbrev invariant-loop : tie.invariant-loop
-invariant-loop key file headers records marks t₀ k₀ t k = (k ≤ records) × Added (pauses_in key (read_day file)) k t
+abbrev invariant-loop-k : tie.invariant-loop-k
+invariant-loop-k key file headers records marks t₀ k₀ t k = (k ≤ records) × Added (pauses_in key (read_day file)) k t
 
-abbrev decreases-loop : tie.decreases-loop
-decreases-loop key file headers records marks t₀ k₀ t k = records - k
+abbrev decreases-loop-k : tie.decreases-loop-k
+decreases-loop-k key file headers records marks t₀ k₀ t k = records - k
 
-abbrev begun : tie.After-shared-slice-known2 invariant-loop decreases-loop → tie.Start invariant-loop decreases-loop
+abbrev begun : tie.After-shared_slice_known-2-1 invariant-loop-k decreases-loop-k → tie.Start invariant-loop-k decreases-loop-k
 begun c = c.before.before
 
-module _ (l : tie.At-loop invariant-loop decreases-loop) where
-  abbrev known : tie.After-shared-slice-known2 invariant-loop decreases-loop
+module _ (l : tie.At-loop-k invariant-loop-k decreases-loop-k) where
+  abbrev known : tie.After-shared_slice_known-2-1 invariant-loop-k decreases-loop-k
   known = l.before.before
 
-  abbrev start : tie.Start invariant-loop decreases-loop
+  abbrev start : tie.Start invariant-loop-k decreases-loop-k
   start = begun known
 
   low : Below 256 start.args.file.now
-  low = below_of 256 start.args.file.now (λ i p. omega (arith, known.shared-slice-known2.given i))
+  low = below_of 256 start.args.file.now (λ i p. omega (arith, known.shared_slice_known-2-1.given i))
 
   abbrev pauses : List Pause
   pauses = pauses_in start.args.key.now (read_day start.args.file.now)
@@ -40,58 +40,58 @@ module _ (l : tie.At-loop invariant-loop decreases-loop) where
   many : length pauses ≡ records_in (read_day start.args.file.now)
   many = pauses_are start.args.key.now (read_day start.args.file.now)
 
-abbrev asked : tie.After-pause-at invariant-loop decreases-loop → tie.In-loop invariant-loop decreases-loop
+abbrev asked : tie.After-pause_at-pause invariant-loop-k decreases-loop-k → tie.In-loop-k invariant-loop-k decreases-loop-k
 asked c = c.before.before
 
-inside : (c : tie.In-loop invariant-loop decreases-loop) → c.before.loop.k < records_in (read_day (start c.before).args.file.now)
-inside c = omega (arith, c.loop-test.true, (start c.before).pre.1)
+inside : (c : tie.In-loop-k invariant-loop-k decreases-loop-k) → c.loop-k.k < records_in (read_day (start c.before).args.file.now)
+inside c = omega (arith, c.loop-k-test.true, (start c.before).requires.1)
 
-marks-requires : tie.Need-marks-requires invariant-loop decreases-loop
-marks-requires c κs = (begun c).requires.0
+marks-marks-requires : tie.Need-marks-marks-requires invariant-loop-k decreases-loop-k
+marks-marks-requires c κs = (begun c).requires.0
 
-loop-holds : tie.Need-loop-init invariant-loop decreases-loop
-loop-holds c = let a = (begun c.before).args in (omega arith, none_added (pauses_in a.key.now (read_day a.file.now)))
+loop-k-init : tie.Need-loop-k-init invariant-loop-k decreases-loop-k
+loop-k-init c = let a = (begun c.before).args in (omega arith, none_added (pauses_in a.key.now (read_day a.file.now)))
 
-pause-at-requires : tie.Need-pause-at-requires invariant-loop decreases-loop
-pause-at-requires c κs =
+pause_at-pause-requires : tie.Need-pause_at-pause-requires invariant-loop-k decreases-loop-k
+pause_at-pause-requires c κs =
     let i = c.before in
     let l = i.before in
-    (l.before.marks.ensures, (start l).requires.1, i.loop-test.true)
+    (l.marks-marks.ensures, (start l).requires.1, i.loop-k-test.true)
 
-added-requires : tie.Need-added-requires invariant-loop decreases-loop
-added-requires c κs =
+added-more-requires : tie.Need-added-more-requires invariant-loop-k decreases-loop-k
+added-more-requires c κs =
     let i = asked c in
     let l = i.before in
     let a = (start l).args in
-    room a.key.now a.file.now (low l) l.loop.k l.loop.t l.loop.invariant.1 (inside i) c.pause-at.result c.pause-at.ensures
+    room a.key.now a.file.now (low l) l.loop-k.k l.loop-k.t l.loop-k.invariant.1 (inside i) c.pause_at-pause.result c.pause_at-pause.ensures
 
-add-k : tie.Need-overflow-add-k invariant-loop decreases-loop
-add-k c = search rules
+overflow_add-k : tie.Need-overflow_add-k invariant-loop-k decreases-loop-k
+overflow_add-k c = search rules
 
-loop-less : tie.Need-loop-smaller invariant-loop decreases-loop
-loop-less c = search rules
+loop-k-smaller : tie.Need-loop-k-smaller invariant-loop-k decreases-loop-k
+loop-k-smaller c = search rules
 
-loop-again : tie.Need-loop-preserved invariant-loop decreases-loop
-loop-again c =
+loop-k-preserved : tie.Need-loop-k-preserved invariant-loop-k decreases-loop-k
+loop-k-preserved c =
     let i = asked c.before in
     let l = i.before in
     let ps = pauses l in
-    (omega arith, subst (Added ps (l.loop.k + 1)) (sym c.added.ensures) (one_added ps l.loop.k l.loop.t l.loop.invariant.1 (omega (arith, many l, inside i)) c.before.pause-at.result c.before.pause-at.ensures))
+    (omega arith, subst (Added ps (l.loop-k.k + 1)) (sym c.added-more.ensures) (one_added ps l.loop-k.k l.loop-k.t l.loop-k.invariant.1 (omega (arith, many l, inside i)) c.pause_at-pause.result c.pause_at-pause.ensures))
 
-returns : tie.Need-returns invariant-loop decreases-loop
-returns c = let l = c.before in all_added (pauses l) l.loop.k l.loop.t l.loop.invariant.1 (omega (arith, many l, (start l).requires.1))
+returns : tie.Need-returns invariant-loop-k decreases-loop-k
+returns c = let l = c.before in all_added (pauses l) l.loop-k.k l.loop-k.t l.loop-k.invariant.1 (omega (arith, many l, (start l).requires.1))
 
 pub totals_spec : {M : Type 1} → statement M
 totals_spec =
     tie.close
     (tie.spec
-    invariant-loop
-    decreases-loop
-    marks-requires
-    loop-holds
-    pause-at-requires
-    added-requires
-    add-k
-    loop-less
-    loop-again
+    invariant-loop-k
+    decreases-loop-k
+    marks-marks-requires
+    loop-k-init
+    pause_at-pause-requires
+    added-more-requires
+    overflow_add-k
+    loop-k-smaller
+    loop-k-preserved
     returns)
