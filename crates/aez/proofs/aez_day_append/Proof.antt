@@ -5,16 +5,19 @@ use borrow.Author.Rules.{rules}
 use Rattle.aez.proofs.aez_day_append.Statement.{statement}
 use Rattle.aez.proofs.aez_day_append.Tie as tie
 
-append-requires : tie.Need-append-requires
-append-requires c κs = search rules
+append-answer-requires : tie.Need-append-answer-requires
+append-answer-requires c κs = search rules
 
-same_length : tie.Need-same-length
-same_length c = search rules
+shape_of-buffer : tie.Need-shape_of-buffer
+shape_of-buffer c = search rules
 
 returns : tie.Need-returns
 returns c =
-    let e = c.before.before.append.ensures in
+    let e = c.append-answer.ensures in
     (ap (λ (o : Outcome). o.number) e, ap (λ (o : Outcome). o.size) e, ap (λ (o : Outcome). o.output) e)
 
 pub aez_day_append_spec : {M : Type 1} → statement M
-aez_day_append_spec = tie.close (tie.spec append-requires same_length returns)
+aez_day_append_spec = tie.close (tie.spec
+    append-answer-requires
+    shape_of-buffer
+    returns)

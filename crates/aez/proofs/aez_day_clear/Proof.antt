@@ -5,16 +5,19 @@ use borrow.Author.Rules.{rules}
 use Rattle.aez.proofs.aez_day_clear.Statement.{statement}
 use Rattle.aez.proofs.aez_day_clear.Tie as tie
 
-clear-requires : tie.Need-clear-requires
-clear-requires c κs = search rules
+clear-answer-requires : tie.Need-clear-answer-requires
+clear-answer-requires c κs = search rules
 
-same_length : tie.Need-same-length
-same_length c = search rules
+shape_of-buffer : tie.Need-shape_of-buffer
+shape_of-buffer c = search rules
 
 returns : tie.Need-returns
 returns c =
-    let e = c.before.before.clear.ensures in
+    let e = c.clear-answer.ensures in
     (ap (λ (o : Outcome). o.number) e, ap (λ (o : Outcome). o.size) e, ap (λ (o : Outcome). o.output) e)
 
 pub aez_day_clear_spec : {M : Type 1} → statement M
-aez_day_clear_spec = tie.close (tie.spec clear-requires same_length returns)
+aez_day_clear_spec = tie.close (tie.spec
+    clear-answer-requires
+    shape_of-buffer
+    returns)

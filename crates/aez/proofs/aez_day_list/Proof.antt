@@ -5,16 +5,19 @@ use borrow.Author.Rules.{rules}
 use Rattle.aez.proofs.aez_day_list.Statement.{statement}
 use Rattle.aez.proofs.aez_day_list.Tie as tie
 
-list-requires : tie.Need-list-requires
-list-requires c κs = search rules
+list-listed-requires : tie.Need-list-listed-requires
+list-listed-requires c κs = search rules
 
-same_length : tie.Need-same-length
-same_length c = search rules
+shape_of-places : tie.Need-shape_of-places
+shape_of-places c = search rules
 
 returns : tie.Need-returns
 returns c =
-    let e = c.before.before.list.ensures in
+    let e = c.list-listed.ensures in
     (ap (λ (o : Listing). o.number) e, ap (λ (o : Listing). o.headers) e, ap (λ (o : Listing). o.records) e, ap (λ (o : Listing). o.places) e)
 
 pub aez_day_list_spec : {M : Type 1} → statement M
-aez_day_list_spec = tie.close (tie.spec list-requires same_length returns)
+aez_day_list_spec = tie.close (tie.spec
+    list-listed-requires
+    shape_of-places
+    returns)

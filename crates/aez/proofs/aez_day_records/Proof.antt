@@ -29,22 +29,27 @@ read f headers records first e = go (read_day f) e
 check-requires : tie.Need-check-requires
 check-requires c κs = search rules
 
-enum-known-n : tie.Need-enum-known-n
-enum-known-n c = search rules
+enum_known-n : tie.Need-enum_known-n
+enum_known-n c = search rules
 
-enum_told : tie.Need-enum-told
-enum_told c = search rules
+enum_told-1 : tie.Need-enum_told-1
+enum_told-1 c = search rules
+
+returns-in_default : tie.Need-returns-in_default
+returns-in_default c =
+    let k = c.before in
+    unread k.args.file.now (sym c.in_default.is ∙ k.check.ensures)
 
 returns : tie.Need-returns
 returns c =
-    let k = c.before.before in
-    unread k.before.before.args.file.now (sym c.enum_told.given.1 ∙ k.check.ensures)
-
-returns-2 : tie.Need-returns-2
-returns-2 c =
-    let n = c.before.n.given in
-    let k = c.before.before.before in
-    read k.before.before.args.file.now n.0.0 n.0.1.0 n.0.1.1.0 (sym n.1 ∙ k.check.ensures)
+    let n = c.in-Day in
+    let k = c.before in
+    read k.args.file.now n.headers n.n n.first (sym n.is ∙ k.check.ensures)
 
 pub aez_day_records_spec : {M : Type 1} → statement M
-aez_day_records_spec = tie.close (tie.spec check-requires enum-known-n enum_told returns returns-2)
+aez_day_records_spec = tie.close (tie.spec
+    check-requires
+    enum_known-n
+    enum_told-1
+    returns-in_default
+    returns)

@@ -5,16 +5,19 @@ use borrow.Author.Rules.{rules}
 use Rattle.aez.proofs.aez_day_write.Statement.{statement}
 use Rattle.aez.proofs.aez_day_write.Tie as tie
 
-write-requires : tie.Need-write-requires
-write-requires c κs = search rules
+write-answer-requires : tie.Need-write-answer-requires
+write-answer-requires c κs = search rules
 
-same_length : tie.Need-same-length
-same_length c = search rules
+shape_of-out : tie.Need-shape_of-out
+shape_of-out c = search rules
 
 returns : tie.Need-returns
 returns c =
-    let e = c.before.before.write.ensures in
+    let e = c.write-answer.ensures in
     (ap (λ (o : Outcome). o.number) e, ap (λ (o : Outcome). o.size) e, ap (λ (o : Outcome). o.output) e)
 
 pub aez_day_write_spec : {M : Type 1} → statement M
-aez_day_write_spec = tie.close (tie.spec write-requires same_length returns)
+aez_day_write_spec = tie.close (tie.spec
+    write-answer-requires
+    shape_of-out
+    returns)

@@ -20,23 +20,28 @@ not_read (as_strings ss) k e = ((cc), (cc), (cc))
 read-requires : tie.Need-read-requires
 read-requires c κs = search rules
 
-enum-known-n : tie.Need-enum-known-n
-enum-known-n c = search rules
+enum_known-n : tie.Need-enum_known-n
+enum_known-n c = search rules
 
-enum-known-k : tie.Need-enum-known-k
-enum-known-k c = search rules
+enum_known-k : tie.Need-enum_known-k
+enum_known-k c = search rules
 
-returns : tie.Need-returns
-returns c =
-    let given = c.before in
-    let read = given.before.before in
-    is_read (reading read.before.before.args.header.now) _ (rw given.n.given.1 at read.read.ensures)
+returns-in-Strings : tie.Need-returns-in-Strings
+returns-in-Strings c =
+    let given = c in
+    let read = given.before in
+    is_read (reading read.args.header.now) _ (rw given.in-Strings.is at read.read.ensures)
 
-returns-2 : tie.Need-returns-2
-returns-2 c =
-    let given = c.before in
-    let read = given.before.before in
-    not_read (reading read.before.before.args.header.now) _ (rw given.k.given.1 at read.read.ensures)
+returns-in-Bad : tie.Need-returns-in-Bad
+returns-in-Bad c =
+    let given = c in
+    let read = given.before in
+    not_read (reading read.args.header.now) _ (rw given.in-Bad.is at read.read.ensures)
 
 pub aez_header_read_spec : {M : Type 1} → statement M
-aez_header_read_spec = tie.close (tie.spec read-requires enum-known-n enum-known-k returns returns-2)
+aez_header_read_spec = tie.close (tie.spec
+    read-requires
+    enum_known-n
+    enum_known-k
+    returns-in-Strings
+    returns-in-Bad)

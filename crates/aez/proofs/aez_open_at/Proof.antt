@@ -5,16 +5,19 @@ use Rattle.paper.specs.Document01.{OutcomeAt}
 use Rattle.aez.proofs.aez_open_at.Statement.{statement}
 use Rattle.aez.proofs.aez_open_at.Tie as tie
 
-open-requires : tie.Need-open-requires
-open-requires c κs = search rules
+open-opened-requires : tie.Need-open-opened-requires
+open-opened-requires c κs = search rules
 
-same_length : tie.Need-same-length
-same_length c = search rules
+shape_of-out : tie.Need-shape_of-out
+shape_of-out c = search rules
 
 returns : tie.Need-returns
 returns c =
-    let e = c.before.before.«open».ensures in
+    let e = c.open-opened.ensures in
     (ap (λ (o : OutcomeAt). o.number) e, ap (λ (o : OutcomeAt). o.output) e, ap (λ (o : OutcomeAt). o.place) e)
 
 pub aez_open_at_spec : {M : Type 1} → statement M
-aez_open_at_spec = tie.close (tie.spec open-requires same_length returns)
+aez_open_at_spec = tie.close (tie.spec
+    open-opened-requires
+    shape_of-out
+    returns)

@@ -5,13 +5,15 @@ use borrow.Author.Rules.{rules}
 use Rattle.aez.proofs.aez_pause.Statement.{statement}
 use Rattle.aez.proofs.aez_pause.Tie as tie
 
-read-field-requires : tie.Need-read-field-requires
-read-field-requires c κs = search rules
+read_field-field-requires : tie.Need-read_field-field-requires
+read_field-field-requires c κs = search rules
 
 returns : tie.Need-returns
 returns c =
-    let e = c.read-field.ensures in
+    let e = c.read_field-field.ensures in
     (ap (λ (p : Pause). p.number) e, ap (λ (p : Pause). p.microseconds) e)
 
 pub aez_pause_spec : {M : Type 1} → statement M
-aez_pause_spec = tie.close (tie.spec read-field-requires returns)
+aez_pause_spec = tie.close (tie.spec
+    read_field-field-requires
+    returns)

@@ -5,16 +5,19 @@ use borrow.Author.Rules.{rules}
 use Rattle.aez.proofs.aez_report.Statement.{statement}
 use Rattle.aez.proofs.aez_report.Tie as tie
 
-report-requires : tie.Need-report-requires
-report-requires c κs = search rules
+report-answer-requires : tie.Need-report-answer-requires
+report-answer-requires c κs = search rules
 
-same_length : tie.Need-same-length
-same_length c = search rules
+shape_of-out : tie.Need-shape_of-out
+shape_of-out c = search rules
 
 returns : tie.Need-returns
 returns c =
-    let e = c.before.before.report.ensures in
+    let e = c.report-answer.ensures in
     (ap (λ (o : Outcome). o.number) e, ap (λ (o : Outcome). o.size) e, ap (λ (o : Outcome). o.output) e)
 
 pub aez_report_spec : {M : Type 1} → statement M
-aez_report_spec = tie.close (tie.spec report-requires same_length returns)
+aez_report_spec = tie.close (tie.spec
+    report-answer-requires
+    shape_of-out
+    returns)

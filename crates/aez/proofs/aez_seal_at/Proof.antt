@@ -5,16 +5,19 @@ use Rattle.paper.specs.Document01.{OutcomeAt}
 use Rattle.aez.proofs.aez_seal_at.Statement.{statement}
 use Rattle.aez.proofs.aez_seal_at.Tie as tie
 
-seal-requires : tie.Need-seal-requires
-seal-requires c κs = search rules
+seal-sealed-requires : tie.Need-seal-sealed-requires
+seal-sealed-requires c κs = search rules
 
-same_length : tie.Need-same-length
-same_length c = search rules
+shape_of-out : tie.Need-shape_of-out
+shape_of-out c = search rules
 
 returns : tie.Need-returns
 returns c =
-    let e = c.before.before.seal.ensures in
+    let e = c.seal-sealed.ensures in
     (ap (λ (o : OutcomeAt). o.number) e, ap (λ (o : OutcomeAt). o.output) e, ap (λ (o : OutcomeAt). o.place) e)
 
 pub aez_seal_at_spec : {M : Type 1} → statement M
-aez_seal_at_spec = tie.close (tie.spec seal-requires same_length returns)
+aez_seal_at_spec = tie.close (tie.spec
+    seal-sealed-requires
+    shape_of-out
+    returns)
