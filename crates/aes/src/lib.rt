@@ -1,5 +1,7 @@
 // The AES round of FIPS 197, and AES4 and AES10 of the AEZ paper's section 7. The last round keeps its MixColumns.
 // The state is on crossed words (`sub_bytes`) for all rounds: it is crossed once before them and once after them, and not for each SubBytes.
+#![tactic(auto)]
+
 ghost use Rattle.std.specs.Prelude.{◌≡◌, ◌≤◌, length};
 ghost use Rattle.paper.specs.Fips197.{bit, MixColumns};
 ghost use Rattle.paper.specs.Section7.{aesenc, AES, AES4, AES10};

@@ -1,5 +1,7 @@
 // What other programs link, from C and from Rust: the calls of the crates below, with the names, the order and the widths that stay.
 // There each slice is a pointer and then a length. No function asks anything of its caller.
+#![tactic(auto)]
+
 ghost use Rattle.std.specs.Prelude.{◌≡◌};
 ghost use Rattle.paper.specs.Document01.{reading, sealing, opening, told, building_log_header};
 ghost use Rattle.paper.specs.DayFile.{counting, opening_record, listing, writing};

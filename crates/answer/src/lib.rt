@@ -1,4 +1,6 @@
 // What a door answers by, and the stretch in its two measures. Document 01, "Answer numbers" and "Header hash".
+#![tactic(auto)]
+
 ghost use Rattle.std.specs.Prelude.{◌≡◌, ◌*◌, ◌≤◌};
 
 // An answer of document 01, and the length of what was written.

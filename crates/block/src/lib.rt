@@ -1,4 +1,6 @@
 // Blocks of 16 bytes: sums, padding, numbers. The AEZ paper's section 7, NOTATION, and document 01, "Blocks".
+#![tactic(auto)]
+
 ghost use Rattle.std.specs.Prelude.{◌≡◌, ◌<◌, length};
 ghost use Rattle.paper.specs.Strings.{◌⊕◌, pad10*, number};
 

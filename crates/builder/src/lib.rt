@@ -1,4 +1,6 @@
 // Building the log header. Document 01, "Headers", and request E2.
+#![tactic(auto)]
+
 ghost use Rattle.std.specs.Prelude.{[], ◌∷◌, ◌≡◌, ◌+◌, ◌≤◌, length};
 ghost use Rattle.paper.specs.Document01.{write_strings, log_header, building_log_header};
 ghost use Rattle.answer.specs.Outcomes.{outcome};

@@ -1,5 +1,7 @@
 // Encrypting and decrypting under a Delta: which strings go to the prf, to AEZ-tiny and to AEZ-core.
 // Lines 100 to 115 and 200 to 202 of Figure 5 of the AEZ paper; document 01, "Which branch".
+#![tactic(auto)]
+
 ghost use Rattle.std.specs.Prelude.{◌≡◌, ◌-◌, ◌≤◌, length, replicate};
 ghost use Rattle.paper.specs.Figure6.{E};
 ghost use Rattle.key.specs.Meaning.{blocks, Kept};

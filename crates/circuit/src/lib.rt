@@ -1,6 +1,8 @@
 // The S-box of FIPS 197 on bit planes, by the circuit of Boyar and Peralta, with their names and in their order (`specs/Circuit`): a fixed
 // sequence of operations, and no table. Plane j has bit j of 64 bytes, and a gate works on all of them at once. One block (`sub_bytes`) and
 // sixteen (`sixteen`) share it.
+#![tactic(auto)]
+
 ghost use Rattle.std.specs.Prelude.{◌≡◌};
 ghost use Rattle.std.specs.Int.Bits.{bit_xor, bit_and};
 ghost use Rattle.paper.specs.Strings.{tab};

@@ -1,5 +1,7 @@
 // A block as four columns of the state of FIPS 197, section 3.4, each one number of 32 bits: made of a block, made a block again, summed and
 // doubled. Sums and doubles are the AEZ paper's, section 7, NOTATION.
+#![tactic(auto)]
+
 ghost use Rattle.std.specs.Prelude.{◌≡◌, ◌<◌};
 ghost use Rattle.paper.specs.Strings.{◌⊕◌};
 ghost use Rattle.paper.specs.Section7.{double};

@@ -1,4 +1,6 @@
 // Reading a day file, request E1: whether it reads. It is walked where it lies, and nothing kept grows with it.
+#![tactic(auto)]
+
 ghost use Rattle.std.specs.Prelude.{◌≡◌, ◌*◌, ◌≤◌, length, drop};
 ghost use Rattle.paper.specs.DayFile.{read_records, read_day};
 ghost use Rattle.day.specs.Checks.{right_index, checked_as};

@@ -1,4 +1,6 @@
 // Appending a record to a day file within its buffer, request E13: whether it is within the layout, how long the file grows, and the answer.
+#![tactic(auto)]
+
 ghost use Rattle.std.specs.Prelude.{◌≡◌, ◌+◌, ◌≤◌, length};
 ghost use Rattle.paper.specs.DayEdits.{append_fits, appending};
 ghost use Rattle.answer.specs.Outcomes.{outcome};

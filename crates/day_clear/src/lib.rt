@@ -1,4 +1,6 @@
 // Clearing records out of a day file within its buffer, request E13: whether the file and the list are right, and the answer.
+#![tactic(auto)]
+
 ghost use Rattle.std.specs.Prelude.{◌≡◌};
 ghost use Rattle.paper.specs.DayEdits.{rising_from, clearing};
 ghost use Rattle.answer.specs.Outcomes.{outcome};

@@ -1,4 +1,6 @@
 // Where a header or a record of a day file that reads stands, request E1. No byte of the file is copied.
+#![tactic(auto)]
+
 ghost use Rattle.std.specs.Prelude.{◌≡◌, ◌<◌, ◌≤◌};
 ghost use Rattle.paper.specs.DayFile.{read_day};
 ghost use Rattle.day_find.specs.Finds.{headers_in, records_in, entry_in, length_place, found_in, FoundWithin};

@@ -1,4 +1,6 @@
 // Whether the lists that a caller hands to the writer of a day file, request E1, are within the layout.
+#![tactic(auto)]
+
 ghost use Rattle.std.specs.Prelude.{◌≡◌};
 ghost use Rattle.paper.specs.DayFile.{present, headers_of};
 ghost use Rattle.day_fit.specs.Fits.{records_right};

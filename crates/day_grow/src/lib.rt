@@ -1,5 +1,7 @@
 // A record put into the buffer that holds a day file, request E13. Parts are moved to the right only: a new header makes room for itself after
 // the others, the record goes after the records, and the index is built anew behind it.
+#![tactic(auto)]
+
 ghost use Rattle.std.specs.Prelude.{◌≡◌, ◌+◌, ◌-◌, ◌*◌, ◌≤◌, length, take};
 ghost use Rattle.paper.specs.Strings.{digits};
 ghost use Rattle.paper.specs.DayFile.{read_day};

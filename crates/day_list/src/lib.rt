@@ -1,4 +1,6 @@
 // Where every header and every record of a day file stands, request E1.
+#![tactic(auto)]
+
 ghost use Rattle.std.specs.Prelude.{[], ◌∷◌, ◌≡◌, ◌+◌, ◌*◌, ◌≤◌, length};
 ghost use Rattle.paper.specs.DayFile.{read_day, listing};
 ghost use Rattle.laws.specs.Placing.{placed};

@@ -1,5 +1,7 @@
 // Marks over the headers of a day file, request E12: where every 64th header stands. Whoever looks for the headers of all records then passes
 // at most 63 headers for each, and not all that stand before it.
+#![tactic(auto)]
+
 ghost use Rattle.std.specs.Prelude.{◌≡◌, ◌<◌, min};
 ghost use Rattle.paper.specs.DayFile.{read_day};
 ghost use Rattle.day_find.specs.Finds.{headers_in, records_in, found_in, FoundWithin};

@@ -1,4 +1,6 @@
 // Opening a record of a day file by its number, request E1: 9, or opening as document 01 has it.
+#![tactic(auto)]
+
 ghost use Rattle.std.specs.Prelude.{◌≡◌};
 ghost use Rattle.paper.specs.DayFile.{opening_record};
 ghost use Rattle.answer.specs.Outcomes.{outcome};

@@ -1,6 +1,8 @@
 // The cleared file put into the buffer that holds a day file, request E13. Parts are moved to the left only. A table of bits tells which headers
 // kept records name, and the number that a header gets is the count of bits before its own. So that no count takes more than 63 steps, those
 // before each group of 64 bits are noted once.
+#![tactic(auto)]
+
 ghost use Rattle.std.specs.Prelude.{true, ◌++◌, ◌≡◌, ◌+◌, ◌-◌, ◌*◌, ◌/◌, ◌%◌, ◌^◌, ◌≤◌, ◌<◌, length, take, drop, replicate, set, eqb};
 ghost use Rattle.paper.specs.Strings.{if◌then◌else◌};
 ghost use Rattle.paper.specs.DayFile.{read_day};

@@ -1,5 +1,7 @@
 // What both edits of a day file do within its buffer, request E13: bytes moved to an earlier or a later place, and the index of the records that stand
 // there.
+#![tactic(auto)]
+
 ghost use Rattle.std.specs.Prelude.{[], ◌∷◌, ◌++◌, ◌≡◌, ◌+◌, ◌*◌, ◌<◌, ◌≤◌, length, take, drop};
 ghost use Rattle.paper.specs.Strings.{digits};
 ghost use Rattle.paper.specs.DayFile.{write_places};

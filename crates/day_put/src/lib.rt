@@ -1,4 +1,6 @@
 // The parts of a day file put at their places, request E1: its headers, its records and its index.
+#![tactic(auto)]
+
 ghost use Rattle.std.specs.Prelude.{true, ◌≡◌, ◌+◌, ◌*◌, ◌<◌, ◌≤◌, length};
 ghost use Rattle.paper.specs.DayFile.{write_record, write_places, present, headers_of, records_of};
 ghost use Rattle.laws.specs.Placing.{placed};

@@ -1,5 +1,7 @@
 // One step of a walk over a day file, request E1: a header or a record at a place, and the place after the headers.
 // The file is walked where it lies: no byte of it is copied.
+#![tactic(auto)]
+
 ghost use Rattle.std.specs.Prelude.{◌≡◌, ◌+◌, ◌<◌, ◌≤◌, length};
 ghost use Rattle.day_steps.specs.Walks.{entry_at, HeaderStep, RecordStep, HeadersWalk};
 

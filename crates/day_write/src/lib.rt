@@ -1,4 +1,6 @@
 // Writing a day file, request E1: what the writer answers for the lists that a caller hands over, and how long the file is.
+#![tactic(auto)]
+
 ghost use Rattle.std.specs.Prelude.{◌≡◌, ◌<◌, ◌≤◌};
 ghost use Rattle.paper.specs.DayFile.{headers_of, day_from, writing};
 ghost use Rattle.answer.specs.Outcomes.{outcome};

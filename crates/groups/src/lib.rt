@@ -1,5 +1,7 @@
 // Sixteen blocks at a time: sums, the masks of E for numbers that follow each other, and AES4 under the lists of keys of Figure 6 of the
 // AEZ paper.
+#![tactic(auto)]
+
 ghost use Rattle.std.specs.Prelude.{◌≡◌, ◌+◌, ◌-◌, ◌*◌, ◌≤◌, ◌<◌, length};
 ghost use Rattle.paper.specs.Strings.{◌⊕◌, sum};
 ghost use Rattle.paper.specs.Figure6.{k0, k1, k2};

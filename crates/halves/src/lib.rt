@@ -1,5 +1,7 @@
 // The halves of a string of at most 31 bytes, Figure 5 of the AEZ paper, lines 214 and 217.
 // A half of n bytes is n half-bytes. It is kept as a block of columns, which has them at its front and zeros behind them.
+#![tactic(auto)]
+
 ghost use Rattle.std.specs.Prelude.{◌≡◌, ◌+◌, ◌-◌, ◌*◌, ◌≤◌, ◌<◌, length, take, drop, get_or};
 ghost use Rattle.paper.specs.Strings.{◌and◌};
 ghost use Rattle.paper.specs.Figure5.{halves, joined};

@@ -1,4 +1,6 @@
 // AEZ-hash and AEZ-prf of Figure 6 of the AEZ paper: what a record is bound to, and the sealed string of the empty text.
+#![tactic(auto)]
+
 ghost use Rattle.std.specs.Prelude.{◌≡◌, ◌≤◌, min, length};
 ghost use Rattle.paper.specs.Figure6.{E, prf_from};
 ghost use Rattle.paper.specs.Document01.{read_header};

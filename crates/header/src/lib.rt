@@ -1,4 +1,6 @@
 // Reading headers: where the strings of a header stand, and whether a header reads. Document 01, "Headers".
+#![tactic(auto)]
+
 ghost use Rattle.std.specs.Prelude.{◌≡◌, ◌<◌};
 ghost use Rattle.paper.specs.Document01.{reading};
 ghost use Rattle.header.specs.Places.{entry_at, Within, count_of, Few, read_as};

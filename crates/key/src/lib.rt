@@ -1,4 +1,6 @@
 // The key record: the 48 bytes of a key, and the multiples of its blocks that are kept with them.
+#![tactic(auto)]
+
 ghost use Rattle.std.specs.Prelude.{◌≡◌, ◌-◌, ◌*◌, ◌≤◌, length};
 ghost use Rattle.paper.specs.Section7.{◌·◌};
 ghost use Rattle.paper.specs.Figure6.{key_of};

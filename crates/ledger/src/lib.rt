@@ -1,6 +1,8 @@
 // The report of a day file, request E12: its pauses counted and summed, their longest and their mean, and the line.
 // One check of the file, one walk over its headers for the marks, and one over its records: each is opened into a small buffer, and its header
 // found from a mark. Nothing else is kept.
+#![tactic(auto)]
+
 ghost use Rattle.std.specs.Prelude.{◌≡◌, ◌<◌, length, replicate};
 ghost use Rattle.paper.specs.Document01.{read_header};
 ghost use Rattle.paper.specs.DayFile.{read_day};

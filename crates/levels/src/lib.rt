@@ -1,4 +1,6 @@
 // 32 words turned over in place, by levels of exchanges: on the way of sixteen blocks to bit planes, and back (`planes`).
+#![tactic(auto)]
+
 ghost use Rattle.std.specs.Prelude.{◌≡◌, ◌<◌, length};
 ghost use Rattle.paper.specs.Fips197.{bit};
 ghost use Rattle.laws.proofs.WordBits.{word_of};

@@ -1,4 +1,6 @@
 // The line of a report, request E12: its figures in decimal.
+#![tactic(auto)]
+
 ghost use Rattle.std.specs.Prelude.{◌≡◌, ◌+◌, ◌<◌, ◌≤◌, length};
 ghost use Rattle.paper.specs.Ledger.{decimal, line_of};
 ghost use Rattle.laws.specs.Placing.{placed};

@@ -1,5 +1,7 @@
 // The mask of a number that counts up, in lines 406 and 408 of Figure 6 of the AEZ paper: a multiple of J that is kept, and a power of L that a
 // loop carries along. Both are columns (`columns`).
+#![tactic(auto)]
+
 ghost use Rattle.std.specs.Prelude.{◌≡◌, ◌*◌, ◌%◌};
 ghost use Rattle.paper.specs.Strings.{◌⊕◌};
 ghost use Rattle.columns.specs.Columns.{columns_of, block_of};

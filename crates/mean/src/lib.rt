@@ -1,4 +1,6 @@
 // The figures of a report, request E12: some totals and their mean in lowest terms.
+#![tactic(auto)]
+
 ghost use Rattle.std.specs.Prelude.{◌≡◌, ◌≤◌, length};
 ghost use Rattle.paper.specs.Ledger.{gcd, figures_of};
 ghost use Rattle.laws.specs.Placing.{placed};

@@ -1,4 +1,6 @@
 // The multiples of a block that a key record keeps, 0·x to 7·x, as columns one after the other.
+#![tactic(auto)]
+
 ghost use Rattle.std.specs.Prelude.{◌≡◌, ◌*◌, ◌%◌};
 ghost use Rattle.columns.specs.Columns.{block_of};
 ghost use Rattle.multiples.specs.Eight.{multiples, four_at};

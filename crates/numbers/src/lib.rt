@@ -1,4 +1,6 @@
 // Numbers in two and in four bytes of a slice, high byte first.
+#![tactic(auto)]
+
 ghost use Rattle.std.specs.Prelude.{◌≡◌, ◌+◌, ◌<◌, ◌≤◌, length, take, drop};
 ghost use Rattle.paper.specs.Strings.{digits};
 ghost use Rattle.paper.specs.DayFile.{value};

@@ -1,4 +1,6 @@
 // The index pairs of the block function E, as document 01's table names them.
+#![tactic(auto)]
+
 ghost use Rattle.std.specs.Prelude.{◌≡◌, ◌+◌, ◌<◌};
 ghost use Rattle.pairs.specs.Meaning.{pair, index_pairs};
 

@@ -1,5 +1,7 @@
 // The passes of AEZ-core over the pairs of blocks: lines 226, 232 and 233 of Figure 5 of the AEZ paper, for one pair and for up to
 // sixteen at a time. m is everywhere 0·J to 7·J, and keys the keys of a group.
+#![tactic(auto)]
+
 ghost use Rattle.std.specs.Prelude.{◌++◌, ◌≡◌, ◌+◌, ◌-◌, ◌*◌, ◌/◌, ◌<◌, ◌≤◌, length};
 ghost use Rattle.paper.specs.Strings.{◌⊕◌, join};
 ghost use Rattle.paper.specs.Section7.{two_to};

@@ -1,4 +1,6 @@
 // The pause of a record, request E12: its text under the decimal mark of its header's locale.
+#![tactic(auto)]
+
 ghost use Rattle.std.specs.Prelude.{◌≡◌};
 ghost use Rattle.paper.specs.Pause.{pausing};
 ghost use Rattle.pause.specs.Fields.{field_of};

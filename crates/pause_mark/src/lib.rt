@@ -1,4 +1,6 @@
 // The decimal mark of a header's locale, request E12.
+#![tactic(auto)]
+
 ghost use Rattle.std.specs.Prelude.{◌≡◌};
 ghost use Rattle.paper.specs.Document01.{read_header};
 ghost use Rattle.paper.specs.Pause.{mark_of};

@@ -1,4 +1,6 @@
 // The totals of pauses with one pause more, request E12.
+#![tactic(auto)]
+
 ghost use Rattle.std.specs.Prelude.{◌≡◌, ◌+◌, ◌<◌, max};
 ghost use Rattle.pause_sum.specs.Added.{added_to, microseconds_in};
 

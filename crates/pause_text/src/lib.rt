@@ -1,4 +1,6 @@
 // The text of a pause in exact microseconds, request E12.
+#![tactic(auto)]
+
 ghost use Rattle.std.specs.Prelude.{◌≡◌, ◌+◌, ◌-◌, ◌<◌, ◌≤◌, length, take, drop, replicate};
 ghost use Rattle.paper.specs.Pause.{digits_first, decimal_after, after_mark, read_pause};
 ghost use Rattle.pause_unit.specs.Answers.{read_as};

@@ -1,4 +1,6 @@
 // The unit at the end of a pause's text, request E12.
+#![tactic(auto)]
+
 ghost use Rattle.std.specs.Prelude.{◌≡◌, ◌<◌, ◌≤◌, length, drop};
 ghost use Rattle.paper.specs.Strings.{same};
 ghost use Rattle.paper.specs.Pause.{unit_of, times};

@@ -1,5 +1,7 @@
 // Sixteen blocks at once on bit planes: their bits are moved there and back. On planes a round of AES works on all blocks by the same few
 // operations on words, and no address depends on a byte.
+#![tactic(auto)]
+
 ghost use Rattle.std.specs.Prelude.{[], map, ◌≡◌, ◌<◌, get_or};
 ghost use Rattle.paper.specs.Fips197.{bit};
 ghost use Rattle.laws.proofs.WordBits.{word_of};

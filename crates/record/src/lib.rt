@@ -1,4 +1,6 @@
 // Sealing and opening, the latter in both its forms: document 01, "Answer numbers". No call asks anything of its caller.
+#![tactic(auto)]
+
 ghost use Rattle.std.specs.Prelude.{◌≡◌};
 ghost use Rattle.paper.specs.Document01.{sealing, opening, opened_part};
 ghost use Rattle.answer.specs.Outcomes.{outcome_at};

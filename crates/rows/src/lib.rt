@@ -1,5 +1,7 @@
 // The steps of an AES round on a row of FIPS 197's state, of many blocks at once: 64 bytes on bit planes, eight words of which word p has
 // bit p of each byte (`circuit/specs/Planes`).
+#![tactic(auto)]
+
 ghost use Rattle.std.specs.Prelude.{◌≡◌, ◌<◌};
 ghost use Rattle.rows.specs.Rows.{turned_row, xor_row, doubled_row, mixed_row};
 

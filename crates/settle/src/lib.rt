@@ -1,4 +1,6 @@
 // Answers 1 to 6 of document 01, "Answer numbers", settled before any cipher is needed: from the key, the header and the lengths.
+#![tactic(auto)]
+
 ghost use Rattle.std.specs.Prelude.{◌≡◌};
 ghost use Rattle.settle.specs.Settled.{settled_common, settled_sealing, settled_opening};
 

@@ -1,5 +1,7 @@
 // The AES round of FIPS 197 on sixteen blocks at once, on bit planes (`planes`): a fixed sequence of operations on whole words. No
 // branch and no address depends on a byte of a block or a key. A row slot of a group is eight words, a word for each plane (`rows`).
+#![tactic(auto)]
+
 ghost use Rattle.std.specs.Prelude.{map, ◌≡◌, ◌<◌};
 ghost use Rattle.paper.specs.Strings.{tab};
 ghost use Rattle.paper.specs.Fips197.{sbox, SubBytes, ShiftRows, MixColumns};

@@ -1,4 +1,6 @@
 // Bytes in a slice: a block loaded and stored, strings copied, cleared and compared.
+#![tactic(auto)]
+
 ghost use Rattle.std.specs.Prelude.{◌++◌, ◌≡◌, ◌+◌, ◌≤◌, length, take, drop, replicate};
 ghost use Rattle.paper.specs.Strings.{same};
 

@@ -1,4 +1,6 @@
 // The strings of a tweak: lines 303 to 306 of Figure 6 of the AEZ paper. Their blocks go through AES4 sixteen at a time.
+#![tactic(auto)]
+
 ghost use Rattle.std.specs.Prelude.{◌≡◌, ◌*◌, ◌/◌, ◌%◌, ◌≤◌, ◌<◌, length};
 ghost use Rattle.paper.specs.Strings.{◌⊕◌, sum};
 ghost use Rattle.paper.specs.Section7.{AES4};

@@ -1,6 +1,8 @@
 // SubBytes of FIPS 197 by a fixed sequence of operations and with no table: no address depends on a byte of the state. The state is four
 // crossed words (`specs/Planes`), which `crossed` makes of four columns, and of which it makes columns again. Their half-bytes are planes,
 // eight words of which word j has bit j of each byte; there the circuit of Boyar and Peralta works on all bytes at once (`circuit`).
+#![tactic(auto)]
+
 ghost use Rattle.std.specs.Prelude.{◌≡◌, ◌<◌};
 ghost use Rattle.paper.specs.Fips197.{bit, SubBytes};
 ghost use Rattle.laws.proofs.WordBits.{word_of};

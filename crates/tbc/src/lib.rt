@@ -1,5 +1,7 @@
 // The block function E of Figure 6 of the AEZ paper. A block goes in and comes out as 16 bytes; masks, multiples and keys are columns
 // (`columns`).
+#![tactic(auto)]
+
 ghost use Rattle.std.specs.Prelude.{[], ◌∷◌, ◌≡◌, ◌≤◌, drop};
 ghost use Rattle.paper.specs.Strings.{◌⊕◌};
 ghost use Rattle.paper.specs.Section7.{◌·◌};

@@ -1,5 +1,7 @@
 // AEZ-tiny of Figure 5 of the AEZ paper, lines 210 to 218: strings of 1 to 31 bytes, enciphered and deciphered in place.
 // m is everywhere 0·J to 7·J, taken out of the key once.
+#![tactic(auto)]
+
 ghost use Rattle.std.specs.Prelude.{false, ◌≡◌, ◌*◌, ◌≤◌, length};
 ghost use Rattle.paper.specs.Strings.{◌⊕◌};
 ghost use Rattle.paper.specs.Section7.{◌·◌};

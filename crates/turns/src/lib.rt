@@ -1,5 +1,7 @@
 // The turns of AEZ-tiny, Figure 5 of the AEZ paper, lines 212 to 216, on halves that are blocks of columns:
 // a turn is AES4 and a few operations on columns.
+#![tactic(auto)]
+
 ghost use Rattle.std.specs.Prelude.{◌≡◌, ◌*◌};
 ghost use Rattle.paper.specs.Figure5.{tiny_rounds};
 ghost use Rattle.columns.specs.Columns.{block_of};

@@ -1,6 +1,8 @@
 // AEZ-core, in place: enciphering and deciphering a string of 32 bytes or more where it stands.
 // Lines 220 to 240 of Figure 5 of the AEZ paper; deciphering exchanges (0, 1) with (0, 2) and (-1, 1) with (-1, 2).
 // m is everywhere 0·J to 7·J, taken out of the key once.
+#![tactic(auto)]
+
 ghost use Rattle.std.specs.Prelude.{◌++◌, ◌≡◌, ◌<◌, ◌≤◌, length};
 ghost use Rattle.paper.specs.Strings.{◌⊕◌};
 ghost use Rattle.paper.specs.Figure6.{E};
