@@ -1,13 +1,12 @@
 -- AES under keys of which the first is columns and the others are crossed gives blocks.
 use mathlib.Core.List.{List, [], ◌∷◌, map}
-use mathlib.Core.Path.{◌≡◌, refl, ap, subst}
+use mathlib.Core.Path.{◌≡◌, refl, subst}
 use Prim.Native.Nat.{ℕ, zero, suc, ◌≤◌}
 use native.Mathlib.Omega.{arith}
 use lib.ListN.{length, get_or, drop, length-map, get_or-map}
 use Rattle.paper.specs.Strings.{Bytes, Block}
 use Rattle.paper.specs.Section7.{AES}
 use Rattle.laws.proofs.AesBlocks.{AllBlocks, AES_block}
-use Rattle.columns.specs.Columns.{block_of}
 use Rattle.columns.proofs.Conversions.{block_of_block}
 use Rattle.sub_bytes.specs.Planes.{crossed, crossed_bytes}
 use Rattle.sub_bytes.proofs.States.{uncrossed_block}

@@ -2,7 +2,7 @@
 use mathlib.Core.Bool.{true, false}
 use mathlib.Core.List.{[], ◌∷◌, ◌++◌}
 use mathlib.Core.Option.{some}
-use mathlib.Core.Path.{◌≡◌, refl, ap}
+use mathlib.Core.Path.{◌≡◌, refl}
 use Rattle.paper.specs.Strings.{digits}
 use Rattle.paper.specs.Document01.{reading, read_strings, read_header, write_strings}
 use Rattle.paper.specs.DayFile.{Day, write_record, write_records, write_headers, first_place, places_from, write_places, write_index, write_day}

@@ -11,7 +11,7 @@ use lib.ListN.{length}
 use Rattle.paper.specs.Strings.{Bytes, if◌then◌else◌}
 use Rattle.paper.specs.Figure6.{key_of, E}
 use Rattle.paper.specs.Figure5.{encrypt, decrypt}
-use Rattle.paper.specs.Document01.{Outcome, OutcomeAt, beside, Read, as_strings, bad_entry, reading, strings_of, read_header, refused, done, longest_sealed, longest_stretch, seal_under, sealing, opened, open_under, opening}
+use Rattle.paper.specs.Document01.{OutcomeAt, beside, Read, as_strings, bad_entry, reading, strings_of, read_header, refused, done, longest_sealed, longest_stretch, seal_under, sealing, opened, open_under, opening}
 use Rattle.laws.proofs.Headers.{reads_as}
 use Rattle.settle.specs.declared.Refusal.{Refusal}
 use Rattle.settle.specs.Settled.{refusal, unread, settled_common, first, settled_sealing, settled_opening}

@@ -11,7 +11,6 @@ use Rattle.columns.specs.Columns.{columns_of}
 use Rattle.columns.proofs.Conversions.{made, sum_of}
 use Rattle.tbc.specs.Meaning.{base, masked0}
 use Rattle.pairs.specs.declared.Pair.{Pair}
-use Rattle.tiny.specs.OnBytes.{mark}
 use Rattle.tiny.proofs.Indices.{index_le}
 use Rattle.tiny.proofs.SummedHalves.{mark_block}
 use Rattle.tiny.proofs.keys_for.Statement.{statement}
