@@ -8,7 +8,8 @@ use borrow.Author.Tests.{lt-ltb, ltb-true, ltb-false}
 use lib.Bits.{bit_xor, bit_and, bit_or, xor_block, xor_shr, xor_zero_r, and_zero_r, or_shr, or_mod, or_zero_r}
 use lib.Dec.{ltb}
 use lib.ListN.{get_or}
-use Rattle.paper.specs.Strings.{Below, if◌then◌else◌, tab_from, tab, zip, ◌⊕◌}
+use Rattle.std.specs.Prelude.{if◌then◌else◌}
+use Rattle.paper.specs.Strings.{Below, tab_from, tab, zip, ◌⊕◌}
 use Rattle.paper.specs.Fips197.{bit, xtime, MixColumns}
 use Rattle.laws.proofs.Round.{xtime_xor, mix_columns}
 use Rattle.laws.proofs.Tables.{get_or_tab}

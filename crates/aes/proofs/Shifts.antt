@@ -9,7 +9,7 @@ use lib.Bits.{bit_xor, bit_and, xor_lt, and_le_r}
 use lib.Dec.{ltb, eqb}
 use lib.ListN.{get_or}
 use lib.Pow.{pow_pos}
-use Rattle.paper.specs.Strings.{if◌then◌else◌}
+use Rattle.std.specs.Prelude.{if◌then◌else◌}
 use Rattle.paper.specs.Fips197.{bit, ShiftRows}
 use Rattle.laws.proofs.WordBits.{word_of, known, either_lt, bit_lt, bit_past, bit_xor_lem, bit_and_lem, bit_down, bit_up, by_bits}
 use Rattle.laws.proofs.Exchange.{picked}

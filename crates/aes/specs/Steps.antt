@@ -1,8 +1,8 @@
 -- The steps of a round on crossed words (`sub_bytes/specs/Planes`): bit 8 (3 - r) + 4 h + c of word w is bit w + 4 h of the byte in row r
 -- and column c.
-use Rattle.std.specs.Prelude.{List, [], ◌∷◌, map, ℕ, ◌+◌, ◌-◌, ◌*◌, ◌/◌, ◌%◌, eqb, get_or, drop}
+use Rattle.std.specs.Prelude.{List, [], ◌∷◌, map, ℕ, ◌+◌, ◌-◌, ◌*◌, ◌/◌, ◌%◌, eqb, get_or, drop, if◌then◌else◌}
 use Rattle.std.specs.Int.Bits.{bit_xor, bit_and, bit_or}
-use Rattle.paper.specs.Strings.{Bytes, if◌then◌else◌, tab}
+use Rattle.paper.specs.Strings.{Bytes, tab}
 use Rattle.paper.specs.Fips197.{bit}
 use Rattle.laws.proofs.WordBits.{word_of}
 use Rattle.columns.specs.Columns.{block_of}

@@ -10,7 +10,8 @@ use borrow.Author.Tests.{eqb-true, eqb-false, le-ltb}
 use lib.Dec.{eqb}
 use lib.ListN.{length, take, drop, replicate, get_elem?}
 use lib.Seq.{take-append_seam}
-use Rattle.paper.specs.Strings.{Bytes, Below, if◌then◌else◌}
+use Rattle.std.specs.Prelude.{if◌then◌else◌}
+use Rattle.paper.specs.Strings.{Bytes, Below}
 use Rattle.paper.specs.Document01.{Outcome, OutcomeAt, refused, done, opening}
 use Rattle.paper.specs.DayFile.{Record, Day, header_of, write_day, longest_file, read_day, open_record, open_in, opening_record, headers_of, day_from, write_as, writing}
 use Rattle.laws.proofs.Demand3.{Fixed}

@@ -11,7 +11,8 @@ use borrow.Author.Tests.{ltb-false, le-ltb}
 use lib.Dec.{ltb}
 use lib.ListN.{length, take, drop, replicate, get_elem?, length-append}
 use lib.Seq.{take-append_seam, drop-append_seam}
-use Rattle.paper.specs.Strings.{Bytes, Below, if◌then◌else◌}
+use Rattle.std.specs.Prelude.{if◌then◌else◌}
+use Rattle.paper.specs.Strings.{Bytes, Below}
 use Rattle.paper.specs.Document01.{Outcome, OutcomeAt, refused, done, opening}
 use Rattle.paper.specs.DayFile.{Record, Day, header_of, write_day, longest_file, read_day, open_record, open_in, opening_record}
 use Rattle.paper.specs.DayEdits.{pick_from, count_below, keeps, mended, cleared, rising_from, shrunk, clear_in, clearing, grown, append_fits, append_in, appending}

@@ -8,7 +8,8 @@ use native.Mathlib.Omega.{arith}
 use borrow.Author.Tests.{eqb-true, eqb-false, ltb-false}
 use lib.Dec.{eqb, ltb}
 use lib.ListN.{length, length-append}
-use Rattle.paper.specs.Strings.{Bytes, Below, if◌then◌else◌, digits}
+use Rattle.std.specs.Prelude.{if◌then◌else◌}
+use Rattle.paper.specs.Strings.{Bytes, Below, digits}
 use Rattle.paper.specs.Document01.{Outcome, OutcomeAt, refused, done, longest_string, write_strings, write_header, log_items, log_header, building_log_header}
 use Rattle.paper.specs.DayFile.{Record, Day, first_place, header_places, record_places, day_places}
 use Rattle.laws.proofs.BitStrings.{length_digits}

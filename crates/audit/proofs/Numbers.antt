@@ -6,7 +6,8 @@ use mathlib.Core.Path.{◌≡◌, refl, ap, ◌∙◌}
 use Prim.Native.Nat.{ℕ}
 use lib.Dec.{eqb, ltb}
 use lib.ListN.{length, take, get_elem?}
-use Rattle.paper.specs.Strings.{Bytes, if◌then◌else◌}
+use Rattle.std.specs.Prelude.{if◌then◌else◌}
+use Rattle.paper.specs.Strings.{Bytes}
 use Rattle.paper.specs.Figure6.{key_of, E}
 use Rattle.paper.specs.Figure5.{decrypt}
 use Rattle.paper.specs.Document01.{Outcome, OutcomeAt, beside, refused, done, Read, as_strings, bad_entry, reading, told, longest_string, log_header, sealing, opened, opening, building_log_header}

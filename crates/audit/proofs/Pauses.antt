@@ -8,7 +8,8 @@ use Prim.Native.Nat.{ℕ}
 use native.Mathlib.Omega.{arith}
 use lib.Dec.{eqb, ltb}
 use lib.ListN.{length}
-use Rattle.paper.specs.Strings.{Bytes, if◌then◌else◌}
+use Rattle.std.specs.Prelude.{if◌then◌else◌}
+use Rattle.paper.specs.Strings.{Bytes}
 use Rattle.paper.specs.Document01.{Outcome, refused, done, read_header}
 use Rattle.paper.specs.DayFile.{Day, read_day}
 use Rattle.paper.specs.Pause.{Pause, comma, point, header_mark, read_pause, pause_read, pause_under, pause_with, pausing}

@@ -6,7 +6,8 @@ use native.Mathlib.Omega.{arith}
 use borrow.Author.Tests.{ltb-true, ltb-false}
 use lib.Dec.{ltb}
 use lib.ListN.{length}
-use Rattle.paper.specs.Strings.{Bytes, if◌then◌else◌}
+use Rattle.std.specs.Prelude.{if◌then◌else◌}
+use Rattle.paper.specs.Strings.{Bytes}
 use Rattle.paper.specs.Document01.{refused, log_header, building_log_header}
 use Rattle.builder.specs.Building.{too_long, settled_as}
 use Rattle.builder.proofs.Items.{builds_8, builds_6}

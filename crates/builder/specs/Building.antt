@@ -1,6 +1,6 @@
 -- What the builder of the log header answers.
-use Rattle.std.specs.Prelude.{Bool, ◌||◌, ℕ, ltb, length}
-use Rattle.paper.specs.Strings.{Bytes, if◌then◌else◌}
+use Rattle.std.specs.Prelude.{Bool, ◌||◌, ℕ, ltb, length, if◌then◌else◌}
+use Rattle.paper.specs.Strings.{Bytes}
 use Rattle.paper.specs.Document01.{longest_string, log_header}
 
 -- an item is longer than a string may be

@@ -9,7 +9,8 @@ use native.Mathlib.Omega.{arith}
 use borrow.Author.Tests.{eq-eqb, ne_eqb, le-ltb, lt-ltb}
 use lib.ListN.{length, take, drop, replicate, length-append, length-drop, take-append-drop}
 use lib.Seq.{take_all, take-append_seam}
-use Rattle.paper.specs.Strings.{Bytes, if◌then◌else◌, same}
+use Rattle.std.specs.Prelude.{if◌then◌else◌}
+use Rattle.paper.specs.Strings.{Bytes, same}
 use Rattle.paper.specs.Figure6.{BlockFunction, prf_from}
 use Rattle.paper.specs.Figure5.{encipher_tiny, decipher_tiny, core, encipher, decipher, unpadded}
 use Rattle.laws.proofs.Fronts.{lent_end}

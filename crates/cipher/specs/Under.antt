@@ -1,7 +1,7 @@
 -- Lines 100 to 115 of Figure 5 with Δ worked out once and handed on, and what opening leaves in place of the sealed string.
-use Rattle.std.specs.Prelude.{Bool, true, false, [], ◌++◌, ℕ, eqb, length, replicate}
+use Rattle.std.specs.Prelude.{Bool, true, false, [], ◌++◌, ℕ, eqb, length, replicate, if◌then◌else◌}
 use Rattle.std.proofs.Math.Option.{Option, none, some}
-use Rattle.paper.specs.Strings.{Bytes, if◌then◌else◌, same}
+use Rattle.paper.specs.Strings.{Bytes, same}
 use Rattle.paper.specs.Figure6.{BlockFunction, prf_from}
 use Rattle.paper.specs.Figure5.{encipher, decipher, unpadded}
 use Rattle.wide.specs.declared.Way.{Way}

@@ -9,7 +9,8 @@ use borrow.Author.Tests.{le-leb, lt-leb}
 use lib.Dec.{leb}
 use lib.ListN.{length, take, drop, length-append, length-drop}
 use lib.Seq.{drop-drop}
-use Rattle.paper.specs.Strings.{Bytes, Below, if◌then◌else◌, same, digits}
+use Rattle.std.specs.Prelude.{if◌then◌else◌}
+use Rattle.paper.specs.Strings.{Bytes, Below, same, digits}
 use Rattle.paper.specs.Document01.{write_strings}
 use Rattle.paper.specs.DayFile.{Record, write_records, first_place, places_from, write_places, write_index, longest_file, value, read_headers, read_records, read_index, read_rest, read_day}
 use Rattle.laws.proofs.Digits.{below_drop}

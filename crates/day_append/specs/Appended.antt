@@ -1,6 +1,6 @@
 -- What an append settles before it writes.
-use Rattle.std.specs.Prelude.{ℕ, ◌+◌, ltb, length}
-use Rattle.paper.specs.Strings.{Bytes, if◌then◌else◌}
+use Rattle.std.specs.Prelude.{ℕ, ◌+◌, ltb, length, if◌then◌else◌}
+use Rattle.paper.specs.Strings.{Bytes}
 use Rattle.paper.specs.DayFile.{longest_file}
 
 -- the length of a file, or 65,537 where it is longer than a file may be

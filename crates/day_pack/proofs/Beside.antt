@@ -9,7 +9,7 @@ use borrow.Author.Tests.{leb-true, ltb-true, ltb-false, eqb-true, eqb-false, le-
 use lib.Dec.{eqb, leb, ltb}
 use lib.ListN.{length, get_or, drop, drop_of_length-le}
 use lib.Seq.{drop-cons}
-use Rattle.paper.specs.Strings.{if◌then◌else◌}
+use Rattle.std.specs.Prelude.{if◌then◌else◌}
 use Rattle.paper.specs.DayEdits.{has, rising_from}
 use Rattle.laws.proofs.Sealing.{and_true}
 use Rattle.day_pack.specs.Kept.{next_is}

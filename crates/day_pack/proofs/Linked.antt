@@ -7,7 +7,8 @@ use native.Mathlib.Omega.{arith}
 use lib.Dec.{eqb}
 use lib.ListN.{length, get_or, take, drop, length-append, take-append-drop}
 use lib.Seq.{length-take-le, take-suc, take_at, take-append_seam, drop_at, drop-cons, drop-drop}
-use Rattle.paper.specs.Strings.{Bytes, if◌then◌else◌, digits}
+use Rattle.std.specs.Prelude.{if◌then◌else◌}
+use Rattle.paper.specs.Strings.{Bytes, digits}
 use Rattle.paper.specs.Document01.{write_strings}
 use Rattle.paper.specs.DayFile.{Record, write_record, write_records, value, record_fits}
 use Rattle.paper.specs.DayEdits.{pick_from, count_below, has, keeps, named, mended}

@@ -9,7 +9,8 @@ use borrow.Author.Tests.{eq-eqb, ne_eqb}
 use lib.Dec.{eqb}
 use lib.ListN.{length, take, drop, replicate, length-append, length-drop, length-set}
 use lib.Seq.{length-take-le}
-use Rattle.paper.specs.Strings.{Bytes, if◌then◌else◌, digits}
+use Rattle.std.specs.Prelude.{if◌then◌else◌}
+use Rattle.paper.specs.Strings.{Bytes, digits}
 use Rattle.paper.specs.DayFile.{value}
 use Rattle.paper.specs.DayEdits.{count_below, has, keeps}
 use Rattle.laws.proofs.BitStrings.{length_digits}

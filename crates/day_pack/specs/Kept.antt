@@ -1,6 +1,6 @@
 -- What clearing marks, and what it puts where, by walks over the bytes of a buffer.
-use Rattle.std.specs.Prelude.{Bool, false, ◌&&◌, ◌||◌, List, [], ◌++◌, ◌≡◌, ℕ, zero, suc, ◌+◌, ◌-◌, ◌≤◌, ◌<◌, eqb, ltb, length, get_or, take, drop}
-use Rattle.paper.specs.Strings.{Bytes, if◌then◌else◌, digits}
+use Rattle.std.specs.Prelude.{Bool, false, ◌&&◌, ◌||◌, List, [], ◌++◌, ◌≡◌, ℕ, zero, suc, ◌+◌, ◌-◌, ◌≤◌, ◌<◌, eqb, ltb, length, get_or, take, drop, if◌then◌else◌}
+use Rattle.paper.specs.Strings.{Bytes, digits}
 use Rattle.paper.specs.DayFile.{value}
 use Rattle.paper.specs.DayEdits.{has, keeps}
 use Rattle.day_steps.specs.Walks.{entry_at}

@@ -3,8 +3,7 @@
 // before each group of 64 bits are noted once.
 #![tactic(auto)]
 
-ghost use Rattle.std.specs.Prelude.{true, ◌++◌, ◌≡◌, ◌+◌, ◌-◌, ◌*◌, ◌/◌, ◌%◌, ◌^◌, ◌≤◌, ◌<◌, length, take, drop, replicate, set, eqb};
-ghost use Rattle.paper.specs.Strings.{if◌then◌else◌};
+ghost use Rattle.std.specs.Prelude.{true, ◌++◌, ◌≡◌, ◌+◌, ◌-◌, ◌*◌, ◌/◌, ◌%◌, ◌^◌, ◌≤◌, ◌<◌, length, take, drop, replicate, set, eqb, if◌then◌else◌};
 ghost use Rattle.paper.specs.DayFile.{read_day};
 ghost use Rattle.paper.specs.DayEdits.{count_below, keeps, rising_from};
 ghost use Rattle.laws.specs.Placing.{placed};

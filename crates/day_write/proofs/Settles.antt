@@ -8,7 +8,8 @@ use native.Mathlib.Omega.{arith}
 use borrow.Author.Tests.{lt-ltb, le-ltb}
 use lib.Dec.{eqb, ltb}
 use lib.ListN.{length}
-use Rattle.paper.specs.Strings.{Bytes, if◌then◌else◌}
+use Rattle.std.specs.Prelude.{if◌then◌else◌}
+use Rattle.paper.specs.Strings.{Bytes}
 use Rattle.paper.specs.DayFile.{Record, Day, write_day, longest_file, present, headers_of, records_of, day_of, day_from}
 use Rattle.laws.proofs.Sealing.{and_true}
 use Rattle.laws.proofs.DayWritten.{first_place_lem, day_long}

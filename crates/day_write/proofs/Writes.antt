@@ -9,7 +9,8 @@ use borrow.Author.Tests.{leb-true, leb-false, ltb-false, le-ltb}
 use lib.Dec.{leb, ltb}
 use lib.ListN.{length, get_or, take, drop}
 use lib.Seq.{length-take-le}
-use Rattle.paper.specs.Strings.{Bytes, if◌then◌else◌, digits}
+use Rattle.std.specs.Prelude.{if◌then◌else◌}
+use Rattle.paper.specs.Strings.{Bytes, digits}
 use Rattle.paper.specs.Document01.{refused, done, write_strings}
 use Rattle.paper.specs.DayFile.{Record, Day, write_record, write_records, first_place, places_from, write_places, write_index, write_day, longest_file, present, record_fits, headers_of, in_front_of, records_of, day_from, write_as, writing}
 use Rattle.laws.proofs.BitStrings.{length_digits}

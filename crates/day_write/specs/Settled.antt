@@ -1,7 +1,6 @@
 -- What the writer of a day file settles, by the lists that it is handed.
 use Rattle.std.proofs.Math.Option.{Option, none, some}
-use Rattle.std.specs.Prelude.{ℕ, ◌+◌, ◌*◌, ltb, length}
-use Rattle.paper.specs.Strings.{if◌then◌else◌}
+use Rattle.std.specs.Prelude.{ℕ, ◌+◌, ◌*◌, ltb, length, if◌then◌else◌}
 use Rattle.paper.specs.DayFile.{Day, write_day, longest_file}
 
 -- the file's length: three counts, two bytes for each header, and eleven for each record, four of them in the index

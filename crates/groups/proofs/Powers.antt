@@ -7,7 +7,8 @@ use native.Mathlib.Nat.{zero-add}
 use native.Mathlib.Omega.{arith}
 use borrow.Author.Tests.{eqb-true, eqb-false}
 use lib.Dec.{eqb}
-use Rattle.paper.specs.Strings.{Bytes, Block, if◌then◌else◌}
+use Rattle.std.specs.Prelude.{if◌then◌else◌}
+use Rattle.paper.specs.Strings.{Bytes, Block}
 use Rattle.paper.specs.Section7.{double, two_to}
 use Rattle.laws.proofs.Multiples.{two_to_zero, two_to_suc}
 use Rattle.laws.proofs.KeyBlocks.{two_to_block}

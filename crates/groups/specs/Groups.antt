@@ -1,6 +1,6 @@
 -- Sixteen blocks at a time: a group is a list of sixteen blocks of columns.
-use Rattle.std.specs.Prelude.{List, [], ◌∷◌, ◌≡◌, ℕ, ◌+◌, ◌-◌, ◌*◌, ◌/◌, ◌%◌, ◌<◌, ltb, length, take, drop, get_or, replicate}
-use Rattle.paper.specs.Strings.{Bytes, if◌then◌else◌, ◌⊕◌}
+use Rattle.std.specs.Prelude.{List, [], ◌∷◌, ◌≡◌, ℕ, ◌+◌, ◌-◌, ◌*◌, ◌/◌, ◌%◌, ◌<◌, ltb, length, take, drop, get_or, replicate, if◌then◌else◌}
+use Rattle.paper.specs.Strings.{Bytes, ◌⊕◌}
 use Rattle.paper.specs.Section7.{zeros, two_to, AES4}
 use Rattle.paper.specs.Figure6.{Key}
 use Rattle.columns.specs.Columns.{columns_of, block_of}

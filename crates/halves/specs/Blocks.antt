@@ -1,7 +1,7 @@
 -- The halves of a string on blocks: a half of n half-bytes is the block that has them at its front and zeros behind them.
-use Rattle.std.specs.Prelude.{List, ◌++◌, ℕ, ◌-◌, ◌*◌, ◌/◌, ◌^◌, leb, length, take, replicate}
+use Rattle.std.specs.Prelude.{List, ◌++◌, ℕ, ◌-◌, ◌*◌, ◌/◌, ◌^◌, leb, length, take, replicate, if◌then◌else◌}
 use Rattle.std.specs.Int.Bits.{bit_xor}
-use Rattle.paper.specs.Strings.{Bytes, if◌then◌else◌}
+use Rattle.paper.specs.Strings.{Bytes}
 use Rattle.paper.specs.Figure5 as figure5
 use Rattle.columns.specs.Columns.{block_of}
 use Rattle.halves.specs.HalfBytes.{half_bytes, whole_bytes}

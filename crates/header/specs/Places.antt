@@ -1,6 +1,6 @@
 -- Where the strings of a header stand. An entry is a string after its two length bytes, high byte first.
-use Rattle.std.specs.Prelude.{◌&&◌, [], ◌∷◌, ℕ, ◌+◌, ◌-◌, ◌*◌, ◌≤◌, ltb, leb, length, get_or}
-use Rattle.paper.specs.Strings.{Bytes, if◌then◌else◌}
+use Rattle.std.specs.Prelude.{◌&&◌, [], ◌∷◌, ℕ, ◌+◌, ◌-◌, ◌*◌, ◌≤◌, ltb, leb, length, get_or, if◌then◌else◌}
+use Rattle.paper.specs.Strings.{Bytes}
 use Rattle.paper.specs.Document01.{most_strings, longest_string, Read, as_strings, bad_entry}
 use Rattle.header.specs.declared.Place.{Place}
 use Rattle.header.specs.declared.Place.TheVariants.{At, Bad}

@@ -7,7 +7,8 @@ use native.Mathlib.Nat.{mod-lt, zero-lt-suc}
 use native.Mathlib.Omega.{arith}
 use lib.Bits.{bit_xor, xor_lt}
 use lib.Dec.{eqb}
-use Rattle.paper.specs.Strings.{Bytes, Below, Digits, Block, if◌then◌else◌, tab_from}
+use Rattle.std.specs.Prelude.{if◌then◌else◌}
+use Rattle.paper.specs.Strings.{Bytes, Below, Digits, Block, tab_from}
 use Rattle.paper.specs.Fips197.{xtime, mul_bits, ◌•◌, affine, sbox, at, SubBytes, ShiftRows, mix_column, mixed, MixColumns}
 use Rattle.paper.specs.Section7.{aesenc, rounds, AES}
 use Rattle.laws.proofs.Digits.{⊕_digits, append_digits, below_get_or}

@@ -12,7 +12,8 @@ use borrow.Author.Tests.{leb-true, le-leb, lt-leb}
 use lib.Dec.{leb}
 use lib.ListN.{length, take, drop, length-append, length-take}
 use lib.Seq.{take-append-add}
-use Rattle.paper.specs.Strings.{Bytes, Below, if◌then◌else◌}
+use Rattle.std.specs.Prelude.{if◌then◌else◌}
+use Rattle.paper.specs.Strings.{Bytes, Below}
 use Rattle.paper.specs.Document01.{most_strings, longest_string, Read, as_strings, bad_entry, in_front, read_strings, reading, strings_of, read_header, write_strings, write_header}
 use Rattle.laws.proofs.Headers.{AllFit, Readable, NoEntry, BadCount, BadString, LeftOver, SaysHeader, two, two_value, write_append, all_in_front, counted, written_then, header_says}
 

@@ -8,7 +8,8 @@ use native.Mathlib.Omega.{arith}
 use borrow.Author.Tests.{eqb-true, leb-true, leb-false}
 use lib.Dec.{eqb, leb}
 use lib.ListN.{length}
-use Rattle.paper.specs.Strings.{Bytes, Digits, Block, if◌then◌else◌, ◌⊕◌, sum, join}
+use Rattle.std.specs.Prelude.{if◌then◌else◌}
+use Rattle.paper.specs.Strings.{Bytes, Digits, Block, ◌⊕◌, sum, join}
 use Rattle.paper.specs.Figure6.{minus1, row, BlockFunction}
 use Rattle.paper.specs.Figure5.{pairs, rest, Mᵢ, M'ᵢ, Mx, My, Mu, Mv, Wᵢ, Xᵢ, Sx, Sy, S'ᵢ, Yᵢ, Zᵢ, C'ᵢ, Cᵢ, Cu, Cv, Cy, Cx, core, X as Xall, S as Sall, Y as Yall}
 use Rattle.laws.proofs.BlockFunction.{GivesBlocks}

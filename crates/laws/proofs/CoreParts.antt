@@ -8,7 +8,8 @@ use borrow.Author.Tests.{leb-false}
 use lib.Dec.{leb}
 use lib.ListN.{length, take, drop, length-append, take-append-drop}
 use lib.Seq.{take_at, drop_at, take-take, take-add, drop-drop}
-use Rattle.paper.specs.Strings.{Bytes, Digits, Block, if◌then◌else◌, join}
+use Rattle.std.specs.Prelude.{if◌then◌else◌}
+use Rattle.paper.specs.Strings.{Bytes, Digits, Block, join}
 use Rattle.paper.specs.Figure5.{pairs, rest, Mᵢ, M'ᵢ, Muv, Mx, My, Mu, Mv}
 use Rattle.laws.proofs.Digits.{take_digits, drop_digits, zero_digits, as_digits}
 use Rattle.laws.proofs.Joins.{UpTo, join_at}

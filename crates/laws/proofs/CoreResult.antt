@@ -7,7 +7,8 @@ use native.Mathlib.Omega.{arith}
 use lib.Dec.{leb}
 use lib.ListN.{length, take, drop}
 use lib.Seq.{take_at, drop_at, drop-drop}
-use Rattle.paper.specs.Strings.{Bytes, Digits, Block, if◌then◌else◌, join}
+use Rattle.std.specs.Prelude.{if◌then◌else◌}
+use Rattle.paper.specs.Strings.{Bytes, Digits, Block, join}
 use Rattle.paper.specs.Figure6.{BlockFunction}
 use Rattle.paper.specs.Figure5.{pairs, rest, Mᵢ, M'ᵢ, Muv, Mx, My, Mu, Mv, C'ᵢ, Cᵢ, Cu, Cv, Cy, Cx, core}
 use Rattle.laws.proofs.BlockFunction.{GivesBlocks}

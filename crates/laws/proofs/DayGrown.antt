@@ -10,7 +10,8 @@ use borrow.Author.Tests.{ltb-true, eqb-true, leb-true, le-leb, lt-ltb, le-ltb}
 use lib.Dec.{eqb, leb, ltb}
 use lib.ListN.{length, get_or, get_elem?, length-append, get_or-append}
 use lib.Seq.{get_or-append_seam}
-use Rattle.paper.specs.Strings.{Bytes, if◌then◌else◌}
+use Rattle.std.specs.Prelude.{if◌then◌else◌}
+use Rattle.paper.specs.Strings.{Bytes}
 use Rattle.paper.specs.Document01.{write_strings}
 use Rattle.paper.specs.DayFile.{Record, Day, write_records, write_day, longest_file, header_fits, record_fits, header_of}
 use Rattle.paper.specs.DayEdits.{headers_with, grown, append_fits}

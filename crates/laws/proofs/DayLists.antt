@@ -9,7 +9,8 @@ use borrow.Author.Tests.{leb-true, le-leb, eq-eqb}
 use lib.Dec.{leb}
 use lib.ListN.{length, get_or, take, drop, length-append, length-drop, length-map}
 use lib.Seq.{length-take-le, take-append_seam, drop-append_seam}
-use Rattle.paper.specs.Strings.{Bytes, if◌then◌else◌}
+use Rattle.std.specs.Prelude.{if◌then◌else◌}
+use Rattle.paper.specs.Strings.{Bytes}
 use Rattle.paper.specs.Document01.{write_strings}
 use Rattle.paper.specs.DayFile.{Record, Day, write_records, header_fits, record_fits, headers_of, in_front_of, records_of, day_of, day_from}
 use Rattle.laws.proofs.DayWritten.{HeadersFit, RecordsFit, strings_long, records_long}

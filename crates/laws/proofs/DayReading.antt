@@ -10,7 +10,8 @@ use borrow.Author.Tests.{leb-true, ltb-true, le-leb}
 use lib.Dec.{leb, ltb}
 use lib.ListN.{length, get_or, take, drop, length-append, length-drop, take-append-drop}
 use lib.Seq.{length-take-le, take_at, drop_at, take-append_seam, drop-append_seam, drop-drop}
-use Rattle.paper.specs.Strings.{Bytes, Below, if◌then◌else◌, same, digits}
+use Rattle.std.specs.Prelude.{if◌then◌else◌}
+use Rattle.paper.specs.Strings.{Bytes, Below, same, digits}
 use Rattle.paper.specs.Document01.{write_strings}
 use Rattle.paper.specs.DayFile.{Record, Day, write_record, write_records, write_index, write_day, longest_file, value, header_fits, record_fits, before, read_headers, read_records, read_index, read_rest, read_day}
 use Rattle.laws.proofs.BitStrings.{length_digits}

@@ -8,7 +8,7 @@ use borrow.Author.Tests.{ltb-false}
 use lib.Bits.{bit_xor, bit_and, xor_lt, xor_comm, xor_zero_r, and_zero_r, and_le_r}
 use lib.Dec.{ltb, eqb}
 use lib.Pow.{pow_pos}
-use Rattle.paper.specs.Strings.{if◌then◌else◌}
+use Rattle.std.specs.Prelude.{if◌then◌else◌}
 use Rattle.paper.specs.Fips197.{bit}
 use Rattle.laws.proofs.Xor.{xor_cancel}
 use Rattle.laws.proofs.WordBits.{word_of, bit_lt, either_lt, bit_xor_lem, bit_and_lem, and_one, bit_down, bit_up, by_bits}

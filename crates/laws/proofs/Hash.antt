@@ -9,7 +9,8 @@ use borrow.Author.Tests.{eq-eqb, ne_eqb}
 use lib.Dec.{eqb}
 use lib.ListN.{length, take, drop, length-take, length-drop}
 use lib.Seq.{take_all}
-use Rattle.paper.specs.Strings.{Bytes, if◌then◌else◌, ◌⊕◌, pad10*, sum}
+use Rattle.std.specs.Prelude.{if◌then◌else◌}
+use Rattle.paper.specs.Strings.{Bytes, ◌⊕◌, pad10*, sum}
 use Rattle.paper.specs.Section7.{zeros}
 use Rattle.paper.specs.Figure6.{row, BlockFunction, block_at, hash_string, hash_from}
 

@@ -7,7 +7,8 @@ use native.Mathlib.Omega.{arith}
 use borrow.Author.Tests.{eqb-true, eqb-false}
 use lib.Dec.{eqb}
 use lib.ListN.{length, drop, length-take, length-drop}
-use Rattle.paper.specs.Strings.{Bytes, Below, Digits, Block, if◌then◌else◌, ◌⊕◌, pad10*, number, sum}
+use Rattle.std.specs.Prelude.{if◌then◌else◌}
+use Rattle.paper.specs.Strings.{Bytes, Below, Digits, Block, ◌⊕◌, pad10*, number, sum}
 use Rattle.paper.specs.Figure6.{minus1, row, BlockFunction, block_at, hash_string, hash_from, AEZ_hash, prf_from, AEZ_prf}
 use Rattle.paper.specs.Figure5.{tweak}
 use Rattle.laws.proofs.BlockFunction.{GivesBlocks}

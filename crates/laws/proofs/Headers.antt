@@ -11,7 +11,8 @@ use borrow.Author.Tests.{leb-true, leb-false, le-leb}
 use lib.Dec.{leb}
 use lib.ListN.{length, get_or, take, drop, length-append, length-take, take-append-drop}
 use lib.Seq.{length-take-le, take-append_seam, drop-append_seam}
-use Rattle.paper.specs.Strings.{Bytes, Below, if◌then◌else◌, digits, number}
+use Rattle.std.specs.Prelude.{if◌then◌else◌}
+use Rattle.paper.specs.Strings.{Bytes, Below, digits, number}
 use Rattle.paper.specs.Figure5.{tweak}
 use Rattle.paper.specs.Document01.{most_strings, longest_string, Read, as_strings, bad_entry, in_front, read_strings, reading, strings_of, read_header, write_strings, write_header, log_items, log_header}
 use Rattle.laws.proofs.Digits.{below_take, below_drop}

@@ -5,7 +5,8 @@ use Prim.Native.Nat.{ℕ, zero, suc, ◌-◌, ◌*◌, ◌/◌, ◌%◌}
 use native.Mathlib.Nat.{mod-lt, zero-lt-suc}
 use native.Mathlib.Omega.{arith}
 use lib.Dec.{eqb}
-use Rattle.paper.specs.Strings.{Bytes, Below, Digits, Block, if◌then◌else◌, ◌⊕◌, digits, number, bits}
+use Rattle.std.specs.Prelude.{if◌then◌else◌}
+use Rattle.paper.specs.Strings.{Bytes, Below, Digits, Block, ◌⊕◌, digits, number, bits}
 use Rattle.paper.specs.Section7.{zeros, msb, double, times_bits, ◌·◌, two_to}
 use Rattle.paper.specs.Figure6.{minus1, row, Key, key_of, k0, k1, k2, K10, masked, hash_row, E}
 use Rattle.laws.proofs.BlockFunction.{GivesBlocks}

@@ -10,7 +10,8 @@ use lib.Bits.{bit_xor, bit_or, bit_and, xor_zero_r, and_zero_r, and_lt, or_lt}
 use lib.Dec.{ltb}
 use borrow.Author.Tests.{ltb-true}
 use lib.ListN.{length, replicate}
-use Rattle.paper.specs.Strings.{Bytes, Bits, Below, Digits, if◌then◌else◌, zip, ◌⊕◌, ◌or◌, ◌and◌, zero_fill, bits0*, bits10*}
+use Rattle.std.specs.Prelude.{if◌then◌else◌}
+use Rattle.paper.specs.Strings.{Bytes, Bits, Below, Digits, zip, ◌⊕◌, ◌or◌, ◌and◌, zero_fill, bits0*, bits10*}
 use Rattle.paper.specs.Figure6.{BlockFunction}
 use Rattle.paper.specs.Figure5.{tiny_e, last_step}
 use Rattle.laws.proofs.Strings.{⊕_cancel}

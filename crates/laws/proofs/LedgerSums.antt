@@ -10,7 +10,8 @@ use native.Mathlib.Omega.{arith}
 use borrow.Author.Tests.{leb-true, leb-false}
 use lib.Dec.{eqb, leb}
 use lib.ListN.{length, get_or, take, drop, replicate, length-append, length-map}
-use Rattle.paper.specs.Strings.{Bytes, Below, if◌then◌else◌, same}
+use Rattle.std.specs.Prelude.{if◌then◌else◌}
+use Rattle.paper.specs.Strings.{Bytes, Below, same}
 use Rattle.paper.specs.Document01.{OutcomeAt, read_header, write_strings, write_header, opening}
 use Rattle.paper.specs.DayFile.{Record, Day, header_of, header_place, header_fits, present, read_day}
 use Rattle.paper.specs.Pause.{Pause, no_pause, comma, point, mark_of, header_mark, read_pause, pause_read, pause_under, pause_with, pausing}

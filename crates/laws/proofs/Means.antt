@@ -7,7 +7,7 @@ use native.Mathlib.Nat.{mod-lt, dvd_refl, dvd-zero, dvd-mod_iff, dvd_antisymm, p
 use native.Mathlib.Omega.{arith}
 use borrow.Author.Tests.{eqb-true, eqb-false, eq-eqb, ne_eqb}
 use lib.Dec.{eqb}
-use Rattle.paper.specs.Strings.{if◌then◌else◌}
+use Rattle.std.specs.Prelude.{if◌then◌else◌}
 use Rattle.paper.specs.Ledger.{gcd_in, gcd, mean_over, mean_under}
 
 -- ---- Euclid

@@ -12,7 +12,8 @@ use lib.Bits.{bit_xor, xor_lt, xor_shifted, xor_zero_r}
 use lib.Dec.{eqb}
 use lib.ListN.{length, get_or, set, drop, length-set, get_or-append, get_or-eq_default}
 use lib.Seq.{drop-append-le, get_or-set_same, get_or-set_other}
-use Rattle.paper.specs.Strings.{Bytes, Below, Block, if◌then◌else◌, zip, ◌⊕◌, digits, number, bits, value_from, bytes_of, bytes}
+use Rattle.std.specs.Prelude.{if◌then◌else◌}
+use Rattle.paper.specs.Strings.{Bytes, Below, Block, zip, ◌⊕◌, digits, number, bits, value_from, bytes_of, bytes}
 use Rattle.paper.specs.Section7.{zeros, shift_left, double, times_bits, ◌·◌, two_to}
 use Rattle.laws.proofs.Strings.{⊕_comm, ⊕_zeros, ⊕_last}
 use Rattle.laws.proofs.Digits.{below_get_or}

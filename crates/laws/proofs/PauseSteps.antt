@@ -9,7 +9,8 @@ use native.Mathlib.Nat.{mul-one, mul_assoc, mul-le-mul_right, pow-succ'}
 use borrow.Author.Tests.{leb-true, le-leb, lt-leb, eq-eqb, ne_eqb}
 use lib.Dec.{leb}
 use lib.ListN.{length, get_or, take, drop}
-use Rattle.paper.specs.Strings.{Bytes, if◌then◌else◌, same}
+use Rattle.std.specs.Prelude.{if◌then◌else◌}
+use Rattle.paper.specs.Strings.{Bytes, same}
 use Rattle.paper.specs.Pause.{is_digit, digits_first, decimal_after, thousandths, unit_of, times, after_mark, after_whole, read_pause}
 use Rattle.laws.proofs.Sealing.{and_true, same_equal}
 

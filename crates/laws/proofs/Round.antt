@@ -7,7 +7,8 @@ use lib.Bits.{bit_xor, xor_comm, xor_zero_r, xor_lt, xor_shr}
 use lib.Dec.{eqb}
 use lib.ListN.{length, get_or, take, drop}
 use lib.Seq.{take-suc, take_all}
-use Rattle.paper.specs.Strings.{Bytes, Block, if◌then◌else◌, tab, zip, ◌⊕◌}
+use Rattle.std.specs.Prelude.{if◌then◌else◌}
+use Rattle.paper.specs.Strings.{Bytes, Block, tab, zip, ◌⊕◌}
 use Rattle.paper.specs.Fips197.{xtime, ◌•◌, mul_bits, at, state, MixColumns}
 use Rattle.paper.specs.Section7.{zeros, aesenc, rounds, AES}
 use Rattle.laws.proofs.Digits.{⊕_block}

@@ -10,7 +10,8 @@ use lib.Arith.{lt_of_le-ne}
 use lib.Dec.{eqb, ltb}
 use lib.ListN.{length, take, drop, replicate, length-append, length-replicate, length-drop, take-append-drop}
 use lib.Seq.{take-append_seam, drop-append_seam}
-use Rattle.paper.specs.Strings.{Bytes, Below, Digits, Block, if◌then◌else◌, same}
+use Rattle.std.specs.Prelude.{if◌then◌else◌}
+use Rattle.paper.specs.Strings.{Bytes, Below, Digits, Block, same}
 use Rattle.paper.specs.Figure6.{BlockFunction, AEZ_prf}
 use Rattle.paper.specs.Figure5.{tweak, delta, encipher, decipher, encrypt, unpadded, decrypt}
 use Rattle.laws.proofs.BlockFunction.{GivesBlocks}

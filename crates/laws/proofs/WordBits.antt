@@ -11,7 +11,8 @@ use lib.Bits.{bit_xor, bit_and, xor_shr, xor_mod, and_shr, and_mod, and_mask, sh
 use lib.Dec.{ltb}
 use lib.ListN.{get_or, get_or-eq_default}
 use lib.Pow.{pow_pos, pow_mono, pow-add, shl-shr, shr-shr, field, mod-mod-pow}
-use Rattle.paper.specs.Strings.{Below, if◌then◌else◌, tab_from, tab}
+use Rattle.std.specs.Prelude.{if◌then◌else◌}
+use Rattle.paper.specs.Strings.{Below, tab_from, tab}
 use Rattle.paper.specs.Fips197.{bit}
 use Rattle.laws.proofs.Tables.{get_or_tab, length_tab}
 

@@ -10,7 +10,8 @@ use borrow.Author.Tests.{eqb-true, eqb-false, ne_eqb}
 use lib.Dec.{eqb}
 use lib.ListN.{length, take, drop, replicate}
 use lib.Seq.{take-append_seam}
-use Rattle.paper.specs.Strings.{Bytes, Below, if◌then◌else◌}
+use Rattle.std.specs.Prelude.{if◌then◌else◌}
+use Rattle.paper.specs.Strings.{Bytes, Below}
 use Rattle.paper.specs.Figure6.{key_of, E}
 use Rattle.paper.specs.Figure5.{decrypt}
 use Rattle.paper.specs.Document01.{OutcomeAt, beside, read_header, opened, opening}

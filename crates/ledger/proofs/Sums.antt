@@ -10,7 +10,8 @@ use native.Mathlib.Omega.{arith}
 use lib.Dec.{eqb}
 use lib.ListN.{length, get_or, drop, drop_of_length-le, length-map}
 use lib.Seq.{drop-cons}
-use Rattle.paper.specs.Strings.{Bytes, Below, if◌then◌else◌}
+use Rattle.std.specs.Prelude.{if◌then◌else◌}
+use Rattle.paper.specs.Strings.{Bytes, Below}
 use Rattle.paper.specs.DayFile.{Day, read_day}
 use Rattle.paper.specs.Pause.{Pause, no_pause}
 use Rattle.paper.specs.Ledger.{pause_of, pauses_of, read_count, refused_count, sum_of, longest_of}

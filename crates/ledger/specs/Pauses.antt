@@ -1,7 +1,7 @@
 -- What the functions of the ledger answer, by the definitions.
-use Rattle.std.specs.Prelude.{List, [], ℕ, eqb, get_or}
+use Rattle.std.specs.Prelude.{List, [], ℕ, eqb, get_or, if◌then◌else◌}
 use Rattle.std.proofs.Math.Option.{Option, none, some}
-use Rattle.paper.specs.Strings.{Bytes, if◌then◌else◌}
+use Rattle.paper.specs.Strings.{Bytes}
 use Rattle.paper.specs.DayFile.{Day}
 use Rattle.paper.specs.Pause.{Pause, no_pause}
 use Rattle.paper.specs.Ledger.{pauses_of, read_count, refused_count, sum_of, longest_of}

@@ -1,7 +1,7 @@
 -- What the report of a file is, before it is put anywhere.
-use Rattle.std.specs.Prelude.{not, eqb, length}
+use Rattle.std.specs.Prelude.{not, eqb, length, if◌then◌else◌}
 use Rattle.std.proofs.Math.Option.{Option, none, some}
-use Rattle.paper.specs.Strings.{Bytes, if◌then◌else◌}
+use Rattle.paper.specs.Strings.{Bytes}
 use Rattle.paper.specs.DayFile.{Day}
 use Rattle.paper.specs.Ledger as paper
 use Rattle.paper.specs.Ledger.{pauses_of, report_of}

@@ -7,7 +7,7 @@ use native.Mathlib.Omega.{arith}
 use borrow.Author.Tests.{ltb-true, ltb-false}
 use lib.Dec.{ltb, eqb}
 use lib.ListN.{get_or, get_or-eq_default}
-use Rattle.paper.specs.Strings.{if◌then◌else◌}
+use Rattle.std.specs.Prelude.{if◌then◌else◌}
 use Rattle.paper.specs.Fips197.{bit}
 use Rattle.laws.proofs.Tables.{get_or_tab, length_tab}
 use Rattle.laws.proofs.WordBits.{word_of, known, bit_lt, bit_zero, either_lt, bit_word}

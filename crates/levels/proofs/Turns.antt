@@ -6,7 +6,8 @@ use Prim.Native.Nat.{ℕ, zero, suc, ◌+◌, ◌*◌, ◌/◌, ◌%◌, ◌<◌
 use native.Mathlib.Omega.{arith}
 use lib.Dec.{ltb}
 use lib.ListN.{length, get_or, set, length-set, take}
-use Rattle.paper.specs.Strings.{if◌then◌else◌, tab}
+use Rattle.std.specs.Prelude.{if◌then◌else◌}
+use Rattle.paper.specs.Strings.{tab}
 use Rattle.laws.proofs.Tables.{tab_entries}
 use Rattle.levels.specs.Levels.{leveled, near, far}
 

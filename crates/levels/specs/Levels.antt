@@ -1,6 +1,6 @@
 -- 32 words turned over, by levels in which two words exchange bits.
-use Rattle.std.specs.Prelude.{List, ℕ, ◌+◌, ◌-◌, ◌*◌, ◌/◌, ◌%◌, eqb, get_or}
-use Rattle.paper.specs.Strings.{if◌then◌else◌, tab}
+use Rattle.std.specs.Prelude.{List, ℕ, ◌+◌, ◌-◌, ◌*◌, ◌/◌, ◌%◌, eqb, get_or, if◌then◌else◌}
+use Rattle.paper.specs.Strings.{tab}
 use Rattle.paper.specs.Fips197.{bit}
 use Rattle.laws.proofs.WordBits.{word_of}
 use Rattle.laws.proofs.Exchange.{lower, upper}

@@ -6,7 +6,8 @@ use Prim.Native.Nat.{ℕ, suc, ◌+◌, ◌-◌, ◌/◌, ◌%◌, ◌≤◌}
 use native.Mathlib.Omega.{arith}
 use borrow.Author.Tests.{eqb-true, eqb-false}
 use lib.Dec.{eqb}
-use Rattle.paper.specs.Strings.{Bytes, Block, if◌then◌else◌}
+use Rattle.std.specs.Prelude.{if◌then◌else◌}
+use Rattle.paper.specs.Strings.{Bytes, Block}
 use Rattle.paper.specs.Section7.{double, two_to}
 use Rattle.laws.proofs.KeyBlocks.{two_to_block}
 use Rattle.laws.proofs.Multiples.{two_to_suc}

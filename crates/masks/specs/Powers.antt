@@ -1,6 +1,5 @@
 -- The powers of L, from one number to the next.
-use Rattle.std.specs.Prelude.{List, ℕ, ◌%◌, eqb}
-use Rattle.paper.specs.Strings.{if◌then◌else◌}
+use Rattle.std.specs.Prelude.{List, ℕ, ◌%◌, eqb, if◌then◌else◌}
 use Rattle.paper.specs.Section7.{double}
 use Rattle.columns.specs.Columns.{columns_of, block_of}
 

@@ -1,6 +1,5 @@
 -- What a pair of `pairs` stands for in Figure 6, and the pairs of 01's table.
-use Rattle.std.specs.Prelude.{Bool, true, false, List, [], ◌∷◌, map, ℕ, zero, suc, ◌≤◌}
-use Rattle.paper.specs.Strings.{if◌then◌else◌}
+use Rattle.std.specs.Prelude.{Bool, true, false, List, [], ◌∷◌, map, ℕ, zero, suc, ◌≤◌, if◌then◌else◌}
 use Rattle.paper.specs.Figure6.{Row, minus1, row}
 use Rattle.paper.specs.Document01.{Use, a, aᵢ, aaᵢ, x, y, xx, yy, u, v, uu, vv, tiny, tiny_last, prf, hash, indices}
 use Rattle.pairs.specs.declared.Pair.{Pair}

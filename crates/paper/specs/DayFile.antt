@@ -1,9 +1,9 @@
 -- Request E1: the day file. A day as lists, what is written of it, what reads, and for each call what it returns and every byte of its output.
 -- A number in the file stands high byte first. Places are counted from the start of the file.
-use Rattle.std.specs.Prelude.{Bool, true, false, ◌&&◌, List, [], ◌∷◌, ◌++◌, ℕ, zero, suc, ◌+◌, ◌*◌, eqb, leb, ltb, length, get_or, take, drop}
+use Rattle.std.specs.Prelude.{Bool, true, false, ◌&&◌, List, [], ◌∷◌, ◌++◌, ℕ, zero, suc, ◌+◌, ◌*◌, eqb, leb, ltb, length, get_or, take, drop, if◌then◌else◌}
 use Rattle.std.proofs.Math.Option.{Option, none, some}
 use Rattle.std.proofs.Math.ListN.{get_elem?}
-use Rattle.paper.specs.Strings.{Bytes, if◌then◌else◌, same, digits}
+use Rattle.paper.specs.Strings.{Bytes, same, digits}
 use Rattle.paper.specs.Document01.{read_header, write_strings, longest_stretch, Outcome, refused, done, opening}
 
 -- ---- A day

@@ -1,8 +1,8 @@
 -- Document 01: the index pairs, headers, the answers in the order in which they are tested, and for each call the number and the length that it returns
 -- and every byte of the output buffer. The numbers are 01's answers; where a request overrides or adds, its name is said.
-use Rattle.std.specs.Prelude.{◌||◌, ◌&&◌, not, List, [], ◌∷◌, ◌++◌, ℕ, zero, suc, ◌+◌, ◌*◌, eqb, leb, ltb, length, take, drop, replicate}
+use Rattle.std.specs.Prelude.{◌||◌, ◌&&◌, not, List, [], ◌∷◌, ◌++◌, ℕ, zero, suc, ◌+◌, ◌*◌, eqb, leb, ltb, length, take, drop, replicate, if◌then◌else◌}
 use Rattle.std.proofs.Math.Option.{Option, none, some}
-use Rattle.paper.specs.Strings.{Bytes, if◌then◌else◌, digits}
+use Rattle.paper.specs.Strings.{Bytes, digits}
 use Rattle.paper.specs.Figure6.{Row, minus1, row, key_of, E}
 use Rattle.paper.specs.Figure5.{encrypt, decrypt}
 

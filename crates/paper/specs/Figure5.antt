@@ -1,9 +1,9 @@
 -- Figure 5 of the AEZ paper: encrypting, enciphering, AEZ-tiny and AEZ-core, and the way back. The numbers are the figure's lines.
 -- E is the block function, which has the key in it. Lengths of byte strings are in bytes, so 32 stands where the figure has 256, and so on;
 -- AEZ-tiny works on bits, as the figure does.
-use Rattle.std.specs.Prelude.{List, [], ◌∷◌, ◌++◌, ℕ, zero, suc, ◌+◌, ◌-◌, ◌*◌, ◌/◌, ◌%◌, eqb, leb, ltb, length, take, drop, replicate}
+use Rattle.std.specs.Prelude.{List, [], ◌∷◌, ◌++◌, ℕ, zero, suc, ◌+◌, ◌-◌, ◌*◌, ◌/◌, ◌%◌, eqb, leb, ltb, length, take, drop, replicate, if◌then◌else◌}
 use Rattle.std.proofs.Math.Option.{Option, none, some}
-use Rattle.paper.specs.Strings.{Bytes, Bits, if◌then◌else◌, same, ◌⊕◌, ◌or◌, ◌and◌, bits0*, bits10*, pad10*, number, number_bits, bits, bytes, sum, join}
+use Rattle.paper.specs.Strings.{Bytes, Bits, same, ◌⊕◌, ◌or◌, ◌and◌, bits0*, bits10*, pad10*, number, number_bits, bits, bytes, sum, join}
 use Rattle.paper.specs.Figure6.{minus1, row, BlockFunction, AEZ_hash, AEZ_prf}
 
 -- L and R of AEZ-tiny

@@ -1,8 +1,8 @@
 -- Figure 6 of the AEZ paper: the block function E, AEZ-hash and AEZ-prf. The numbers are the figure's lines.
 -- The figure is partial: (1, 0), (2, 0), and numbers above 7 in rows -1 and 0 are not defined there. E is total: it goes on by the
 -- same formulas, with 0 - 1 = 0. `Defined` is the figure's own domain.
-use Rattle.std.specs.Prelude.{List, [], ◌∷◌, ℕ, zero, suc, ◌+◌, ◌-◌, ◌*◌, ◌/◌, ◌%◌, ◌≤◌, max, eqb, length, take, drop}
-use Rattle.paper.specs.Strings.{Bytes, if◌then◌else◌, ◌⊕◌, pad10*, number, sum, join}
+use Rattle.std.specs.Prelude.{List, [], ◌∷◌, ℕ, zero, suc, ◌+◌, ◌-◌, ◌*◌, ◌/◌, ◌%◌, ◌≤◌, max, eqb, length, take, drop, if◌then◌else◌}
+use Rattle.paper.specs.Strings.{Bytes, ◌⊕◌, pad10*, number, sum, join}
 use Rattle.paper.specs.Section7.{zeros, ◌·◌, two_to, AES4, AES10}
 
 -- the first index: -1, or a number

@@ -1,9 +1,9 @@
 -- FIPS 197, with the sections of the edition of 2001: the field, the S-box by its rule, and three of the four steps of a round. The
 -- fourth, AddRoundKey, is the xor of strings.
 -- A byte is the number below 256 whose bit i is the coefficient of x^i. The sum of two bytes is their exclusive or (4.1).
-use Rattle.std.specs.Prelude.{[], ◌∷◌, ◌++◌, map, ℕ, zero, suc, ◌+◌, ◌*◌, ◌/◌, ◌%◌, ◌^◌, eqb, get_or}
+use Rattle.std.specs.Prelude.{[], ◌∷◌, ◌++◌, map, ℕ, zero, suc, ◌+◌, ◌*◌, ◌/◌, ◌%◌, ◌^◌, eqb, get_or, if◌then◌else◌}
 use Rattle.std.specs.Int.Bits.{bit_xor}
-use Rattle.paper.specs.Strings.{Bytes, if◌then◌else◌, tab}
+use Rattle.paper.specs.Strings.{Bytes, tab}
 
 infixl 70 ◌•◌
 infixl 66 ◌+b◌

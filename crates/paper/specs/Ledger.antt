@@ -1,7 +1,7 @@
 -- Request E12, the report of a day file: each figure over the list of its records, and the line.
-use Rattle.std.specs.Prelude.{not, List, [], ◌∷◌, ◌++◌, map, ℕ, zero, suc, ◌+◌, ◌/◌, ◌%◌, max, eqb, ltb, length, take, replicate}
+use Rattle.std.specs.Prelude.{not, List, [], ◌∷◌, ◌++◌, map, ℕ, zero, suc, ◌+◌, ◌/◌, ◌%◌, max, eqb, ltb, length, take, replicate, if◌then◌else◌}
 use Rattle.std.proofs.Math.Option.{Option, none, some}
-use Rattle.paper.specs.Strings.{Bytes, if◌then◌else◌}
+use Rattle.paper.specs.Strings.{Bytes}
 use Rattle.paper.specs.Document01.{Outcome, refused, done, opening}
 use Rattle.paper.specs.DayFile.{Record, Day, header_of, read_day}
 use Rattle.paper.specs.Pause.{Pause, no_pause, pausing}

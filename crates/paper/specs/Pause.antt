@@ -1,8 +1,8 @@
 -- Request E12, the pause: the locale of a header and its decimal mark, which text is a pause, and how many microseconds it is.
 -- Bytes are ASCII: 30 to 39 are the digits, 2c is the comma, 2e the point, 20 the space.
-use Rattle.std.specs.Prelude.{Bool, ◌&&◌, List, [], ◌∷◌, ◌++◌, ℕ, suc, ◌+◌, ◌-◌, ◌*◌, eqb, leb, length, get_or, take, drop, replicate}
+use Rattle.std.specs.Prelude.{Bool, ◌&&◌, List, [], ◌∷◌, ◌++◌, ℕ, suc, ◌+◌, ◌-◌, ◌*◌, eqb, leb, length, get_or, take, drop, replicate, if◌then◌else◌}
 use Rattle.std.proofs.Math.Option.{Option, none, some}
-use Rattle.paper.specs.Strings.{Bytes, if◌then◌else◌, same}
+use Rattle.paper.specs.Strings.{Bytes, same}
 use Rattle.paper.specs.Document01.{read_header}
 
 -- ---- The decimal mark

@@ -1,6 +1,6 @@
 -- Section 7 of the AEZ paper, NOTATION, second part: multiples of blocks, and the AES round in lists of keys.
-use Rattle.std.specs.Prelude.{List, [], ◌∷◌, ◌++◌, ℕ, zero, suc, ◌*◌, ◌/◌, ◌%◌, eqb, drop, get_or, replicate}
-use Rattle.paper.specs.Strings.{Bytes, Bits, if◌then◌else◌, ◌⊕◌, bits, bytes, number}
+use Rattle.std.specs.Prelude.{List, [], ◌∷◌, ◌++◌, ℕ, zero, suc, ◌*◌, ◌/◌, ◌%◌, eqb, drop, get_or, replicate, if◌then◌else◌}
+use Rattle.paper.specs.Strings.{Bytes, Bits, ◌⊕◌, bits, bytes, number}
 use Rattle.paper.specs.Fips197.{SubBytes, ShiftRows, MixColumns}
 
 infixr 72 ◌·◌

@@ -5,7 +5,6 @@ use Rattle.std.specs.Prelude.{Bool, true, false, ◌&&◌, List, [], ◌∷◌, 
 use Rattle.std.specs.Int.Bits.{bit_xor, bit_or, bit_and}
 
 infixl 66 ◌⊕◌ ◌or◌ ◌and◌
-infixr 2 if◌then◌else◌
 abbrev pub Bytes : Type 0
 Bytes = List ℕ
 
@@ -25,11 +24,6 @@ pub record Digits (b n : ℕ) (X : List ℕ) : Type 0 where
 -- a block is 128 bits: 16 bytes
 abbrev pub Block : Bytes → Type 0
 Block X = Digits 8 16 X
-
--- a choice by a test
-abbrev pub if◌then◌else◌ : {A : Type 0} → Bool → A → A → A
-if◌then◌else◌ true a b = a
-if◌then◌else◌ false a b = b
 
 -- X and Y have the same entries
 unfoldable pub same : List ℕ → List ℕ → Bool

@@ -1,6 +1,6 @@
 -- Lines 226, 232 and 233 of Figure 5 for one pair of blocks, which stand after each other in P, and for the pairs of a string.
-use Rattle.std.specs.Prelude.{List, ◌++◌, ◌≡◌, ℕ, zero, suc, ◌+◌, ◌-◌, ◌*◌, ◌/◌, ◌≤◌, ltb, length, take, drop}
-use Rattle.paper.specs.Strings.{Bytes, if◌then◌else◌, ◌⊕◌, sum, join}
+use Rattle.std.specs.Prelude.{List, ◌++◌, ◌≡◌, ℕ, zero, suc, ◌+◌, ◌-◌, ◌*◌, ◌/◌, ◌≤◌, ltb, length, take, drop, if◌then◌else◌}
+use Rattle.paper.specs.Strings.{Bytes, ◌⊕◌, sum, join}
 use Rattle.paper.specs.Figure6.{row, BlockFunction, Key}
 use Rattle.paper.specs.Figure5.{pairs}
 use Rattle.columns.specs.Columns.{columns_of, block_of}

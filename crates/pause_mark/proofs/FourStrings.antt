@@ -9,7 +9,8 @@ use native.Mathlib.Omega.{arith}
 use borrow.Author.Tests.{le-ltb}
 use lib.ListN.{length, get_or, take, drop, length-drop}
 use lib.Seq.{drop-cons, drop-drop, get_or-drop, take-append_seam, drop-append_seam}
-use Rattle.paper.specs.Strings.{Bytes, Below, if◌then◌else◌, digits}
+use Rattle.std.specs.Prelude.{if◌then◌else◌}
+use Rattle.paper.specs.Strings.{Bytes, Below, digits}
 use Rattle.paper.specs.Document01.{Read, as_strings, bad_entry, reading, strings_of, read_header, write_strings, write_header}
 use Rattle.paper.specs.Pause.{header_mark, mark_of}
 use Rattle.laws.proofs.Headers.{AllFit, read_write, read_readable}

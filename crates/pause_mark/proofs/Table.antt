@@ -6,7 +6,8 @@ use mathlib.Core.Path.{◌≡◌, refl, ap, sym, ◌∙◌}
 use Prim.Native.Nat.{ℕ, zero, suc, ◌+◌, ◌<◌}
 use native.Mathlib.Omega.{arith}
 use lib.ListN.{length, get_or, drop}
-use Rattle.paper.specs.Strings.{Bytes, if◌then◌else◌, same}
+use Rattle.std.specs.Prelude.{if◌then◌else◌}
+use Rattle.paper.specs.Strings.{Bytes, same}
 use Rattle.paper.specs.Pause.{comma, point, locales, mark_in, mark_of}
 use Rattle.pause_mark.specs.declared.Locale.{Locale}
 use Rattle.pause_unit.specs.Answers.{or_zero}

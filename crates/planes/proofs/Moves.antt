@@ -7,7 +7,7 @@ use native.Mathlib.Omega.{arith}
 use borrow.Author.Tests.{ltb-false}
 use lib.Bits.{bit_xor, xor_lt, xor_zero_l, xor_zero_r}
 use lib.Dec.{ltb, lit<}
-use Rattle.paper.specs.Strings.{if◌then◌else◌}
+use Rattle.std.specs.Prelude.{if◌then◌else◌}
 use Rattle.paper.specs.Fips197.{bit}
 use Rattle.laws.proofs.WordBits.{word_of, bit_past, bit_xor_lem, bit_up, by_bits}
 use Rattle.planes.specs.Planes.{joined_bit}

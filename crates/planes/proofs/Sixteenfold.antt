@@ -7,7 +7,7 @@ use native.Mathlib.Omega.{arith}
 use lib.Bits.{bit_xor, bit_and, xor_lt, xor_zero_l, xor_zero_r, and_zero_r, and_le_r}
 use lib.Dec.{ltb, eqb, lit<, lit≤}
 use lib.ListN.{get_or}
-use Rattle.paper.specs.Strings.{if◌then◌else◌}
+use Rattle.std.specs.Prelude.{if◌then◌else◌}
 use Rattle.paper.specs.Fips197.{bit}
 use Rattle.laws.proofs.WordBits.{word_of, known, bit_lt, bit_xor_lem, bit_and_lem, and_one, bit_down, bit_up, bit_word, by_bits, either_lt}
 use Rattle.levels.specs.Levels.{bits_of, words_of}

@@ -1,6 +1,6 @@
 -- Sixteen blocks on bit planes, and the words that are turned over to get there.
-use Rattle.std.specs.Prelude.{List, [], ◌∷◌, map, ℕ, ◌+◌, ◌-◌, ◌*◌, ◌/◌, ◌%◌, eqb, ltb, get_or}
-use Rattle.paper.specs.Strings.{Bytes, if◌then◌else◌, tab}
+use Rattle.std.specs.Prelude.{List, [], ◌∷◌, map, ℕ, ◌+◌, ◌-◌, ◌*◌, ◌/◌, ◌%◌, eqb, ltb, get_or, if◌then◌else◌}
+use Rattle.paper.specs.Strings.{Bytes, tab}
 use Rattle.paper.specs.Fips197.{bit}
 use Rattle.laws.proofs.WordBits.{number}
 use Rattle.levels.specs.Levels.{bits_of, words_of}

@@ -8,7 +8,8 @@ use borrow.Author.Tests.{ltb-true, ltb-false}
 use lib.Bits.{bit_xor, bit_or, xor_block, or_shr, or_mod, or_zero_r}
 use lib.Dec.{ltb}
 use lib.ListN.{get_or}
-use Rattle.paper.specs.Strings.{if◌then◌else◌, tab_from, tab}
+use Rattle.std.specs.Prelude.{if◌then◌else◌}
+use Rattle.paper.specs.Strings.{tab_from, tab}
 use Rattle.paper.specs.Fips197.{bit, xtime}
 use Rattle.laws.proofs.Round.{xtime_xor}
 use Rattle.laws.proofs.Tables.{get_or_tab}

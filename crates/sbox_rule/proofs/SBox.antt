@@ -5,7 +5,8 @@ use mathlib.Core.Path.{◌≡◌, refl, ap, sym, subst, ◌∙◌}
 use Prim.Native.Nat.{ℕ}
 use lib.Dec.{T, ltb, ltb→lt}
 use lib.ListN.{get_or}
-use Rattle.paper.specs.Strings.{Bytes, if◌then◌else◌, tab}
+use Rattle.std.specs.Prelude.{if◌then◌else◌}
+use Rattle.paper.specs.Strings.{Bytes, tab}
 use Rattle.paper.specs.Fips197.{sbox, affine, inverse, squares, ◌•◌, mul_bits}
 use Rattle.laws.proofs.Tables.{get_or_tab}
 

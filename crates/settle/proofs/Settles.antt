@@ -8,7 +8,8 @@ use native.Mathlib.Omega.{arith}
 use borrow.Author.Tests.{eq-eqb, ne_eqb, eqb-true, eqb-false, le-ltb, ltb-false}
 use lib.Dec.{eqb, ltb}
 use lib.ListN.{length}
-use Rattle.paper.specs.Strings.{Bytes, if◌then◌else◌}
+use Rattle.std.specs.Prelude.{if◌then◌else◌}
+use Rattle.paper.specs.Strings.{Bytes}
 use Rattle.paper.specs.Figure6.{key_of, E}
 use Rattle.paper.specs.Figure5.{encrypt, decrypt}
 use Rattle.paper.specs.Document01.{OutcomeAt, beside, Read, as_strings, bad_entry, reading, strings_of, read_header, refused, done, longest_sealed, longest_stretch, seal_under, sealing, opened, open_under, opening}

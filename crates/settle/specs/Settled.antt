@@ -1,6 +1,6 @@
 -- Answers 1 to 6 of document 01, by the lengths that they ask about: the first test that holds, or 0.
-use Rattle.std.specs.Prelude.{not, ℕ, ◌+◌, eqb, ltb, length}
-use Rattle.paper.specs.Strings.{Bytes, if◌then◌else◌}
+use Rattle.std.specs.Prelude.{not, ℕ, ◌+◌, eqb, ltb, length, if◌then◌else◌}
+use Rattle.paper.specs.Strings.{Bytes}
 use Rattle.paper.specs.Document01.{Read, as_strings, bad_entry, reading, longest_sealed, longest_stretch}
 use Rattle.settle.specs.declared.Refusal.{Refusal}
 

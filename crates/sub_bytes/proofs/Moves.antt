@@ -7,7 +7,7 @@ use native.Mathlib.Nat.{lt_of_le_of_lt}
 use lib.Bits.{bit_xor, bit_and, xor_lt, and_le_r}
 use lib.Dec.{ltb, eqb, lit<}
 use lib.ListN.{get_or}
-use Rattle.paper.specs.Strings.{if◌then◌else◌}
+use Rattle.std.specs.Prelude.{if◌then◌else◌}
 use Rattle.paper.specs.Fips197.{bit}
 use Rattle.laws.proofs.WordBits.{word_of, known, bit_lt, bit_xor_lem, bit_and_lem, bit_up, bit_word, by_bits}
 use Rattle.laws.proofs.Exchange.{lower, upper, picked, lower_lt, upper_lt}

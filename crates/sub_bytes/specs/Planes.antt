@@ -1,6 +1,6 @@
 -- Words by their bits, and a state on bit planes: plane j has bit j of each byte.
-use Rattle.std.specs.Prelude.{List, [], ◌∷◌, ℕ, ◌+◌, ◌-◌, ◌*◌, ◌/◌, ◌%◌, ltb, get_or}
-use Rattle.paper.specs.Strings.{Bytes, if◌then◌else◌, tab}
+use Rattle.std.specs.Prelude.{List, [], ◌∷◌, ℕ, ◌+◌, ◌-◌, ◌*◌, ◌/◌, ◌%◌, ltb, get_or, if◌then◌else◌}
+use Rattle.paper.specs.Strings.{Bytes, tab}
 use Rattle.paper.specs.Fips197.{bit}
 use Rattle.laws.proofs.WordBits.{word_of}
 use Rattle.circuit.specs.Planes.{lane}

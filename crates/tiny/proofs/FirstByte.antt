@@ -8,7 +8,8 @@ use native.Mathlib.Omega.{arith}
 use lib.Bits.{bit_xor, bit_or, bit_and, or_zero_r}
 use borrow.Author.Tests.{lt-ltb, le-ltb}
 use lib.ListN.{length, get_or, set, replicate, length-append, length-replicate}
-use Rattle.paper.specs.Strings.{Bytes, if◌then◌else◌, zip, ◌⊕◌, ◌or◌, ◌and◌, zero_fill, pad10*}
+use Rattle.std.specs.Prelude.{if◌then◌else◌}
+use Rattle.paper.specs.Strings.{Bytes, zip, ◌⊕◌, ◌or◌, ◌and◌, zero_fill, pad10*}
 use Rattle.paper.specs.Figure6.{row, BlockFunction}
 use Rattle.laws.proofs.LastStep.{⊕_and_zeros}
 use Rattle.tiny.specs.OnBytes.{last_bytes}

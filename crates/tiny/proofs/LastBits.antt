@@ -6,7 +6,8 @@ use Prim.Native.Nat.{ℕ, ◌*◌, ◌≤◌, ◌<◌}
 use native.Mathlib.Omega.{arith}
 use lib.Dec.{ltb}
 use lib.ListN.{length}
-use Rattle.paper.specs.Strings.{Bytes, Bits, Digits, Block, if◌then◌else◌, ◌⊕◌, ◌or◌, ◌and◌, zero_fill, bits0*, bits10*, pad10*, bits, bytes}
+use Rattle.std.specs.Prelude.{if◌then◌else◌}
+use Rattle.paper.specs.Strings.{Bytes, Bits, Digits, Block, ◌⊕◌, ◌or◌, ◌and◌, zero_fill, bits0*, bits10*, pad10*, bits, bytes}
 use Rattle.paper.specs.Figure6.{row, BlockFunction}
 use Rattle.paper.specs.Figure5.{tiny_e, last_step}
 use Rattle.laws.proofs.BlockFunction.{GivesBlocks}

@@ -1,6 +1,6 @@
 -- Lines 216 and 217 of Figure 5 on bytes: the 1 bit of R10*, and the `if`.
-use Rattle.std.specs.Prelude.{[], ◌∷◌, ◌++◌, ℕ, ◌*◌, ltb, length, replicate}
-use Rattle.paper.specs.Strings.{Bytes, if◌then◌else◌, ◌⊕◌, ◌or◌, ◌and◌, zero_fill, pad10*}
+use Rattle.std.specs.Prelude.{[], ◌∷◌, ◌++◌, ℕ, ◌*◌, ltb, length, replicate, if◌then◌else◌}
+use Rattle.paper.specs.Strings.{Bytes, ◌⊕◌, ◌or◌, ◌and◌, zero_fill, pad10*}
 use Rattle.paper.specs.Figure6.{row, BlockFunction}
 use Rattle.halves.specs.Blocks.{packed}
 

@@ -6,7 +6,8 @@ use native.Mathlib.Omega.{arith}
 use lib.Dec.{eqb, leb}
 use lib.ListN.{length, take, drop, length-drop}
 use lib.Seq.{length-take-le, take_all, drop-drop}
-use Rattle.paper.specs.Strings.{Bytes, Digits, Block, if◌then◌else◌, ◌⊕◌, sum}
+use Rattle.std.specs.Prelude.{if◌then◌else◌}
+use Rattle.paper.specs.Strings.{Bytes, Digits, Block, ◌⊕◌, sum}
 use Rattle.paper.specs.Figure6.{minus1, row, BlockFunction}
 use Rattle.paper.specs.Figure5.{pairs, rest, Muv, My, Xᵢ, Sx, Sy, Yᵢ, Cu, Cv, Cy, Cx, X as Xall, S as Sall, Y as Yall}
 use Rattle.laws.proofs.BlockFunction.{GivesBlocks}

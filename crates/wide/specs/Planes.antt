@@ -1,6 +1,5 @@
 -- The keys on planes of a string.
-use Rattle.std.specs.Prelude.{List, ℕ, ltb, replicate}
-use Rattle.paper.specs.Strings.{if◌then◌else◌}
+use Rattle.std.specs.Prelude.{List, ℕ, ltb, replicate, if◌then◌else◌}
 use Rattle.paper.specs.Figure6.{Key}
 use Rattle.groups.specs.Groups.{keys_of}
 

@@ -1,6 +1,6 @@
 -- Lines 227 to 229 and 234 to 238 of Figure 5 for the part t of u and v, which has less than 32 bytes.
-use Rattle.std.specs.Prelude.{[], eqb, leb, length}
-use Rattle.paper.specs.Strings.{Bytes, if◌then◌else◌, ◌⊕◌}
+use Rattle.std.specs.Prelude.{[], eqb, leb, length, if◌then◌else◌}
+use Rattle.paper.specs.Strings.{Bytes, ◌⊕◌}
 use Rattle.paper.specs.Figure6.{minus1, BlockFunction}
 use Rattle.laws.proofs.CoreParts.{u_of, v_of}
 use Rattle.laws.proofs.CoreBlocks.{uv_added}

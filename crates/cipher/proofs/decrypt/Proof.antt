@@ -6,7 +6,8 @@ use native.Mathlib.Omega.{arith}
 use borrow.Author.Rules.{rules}
 use lib.Arith.{lt_of_le-ne}
 use lib.ListN.{length, replicate}
-use Rattle.paper.specs.Strings.{Bytes, if◌then◌else◌}
+use Rattle.std.specs.Prelude.{if◌then◌else◌}
+use Rattle.paper.specs.Strings.{Bytes}
 use Rattle.paper.specs.Figure6.{BlockFunction, E}
 use Rattle.key.specs.Meaning.{blocks}
 use Rattle.cipher.specs.Under.{decrypt_under, opens, leaves}

@@ -4,7 +4,7 @@ use mathlib.Core.Path.{ap, sym, ◌∙◌}
 use Prim.Native.Nat.{ℕ, ◌/◌}
 use lib.Bits.{bit_or}
 use lib.ListN.{get_or, set}
-use Rattle.paper.specs.Strings.{if◌then◌else◌}
+use Rattle.std.specs.Prelude.{if◌then◌else◌}
 use Rattle.day_pack.specs.Bits.{with_bit}
 use borrow.Author.Rules.{rules}
 use Rattle.day_pack.proofs.mark.Statement.{statement}

@@ -5,7 +5,7 @@ use Prim.Native.Nat.{◌/◌, ◌%◌}
 use lib.ListN.{set}
 use borrow.Author.Rules.{rules}
 use borrow.Author.Tests.{eq-eqb, ne_eqb}
-use Rattle.paper.specs.Strings.{if◌then◌else◌}
+use Rattle.std.specs.Prelude.{if◌then◌else◌}
 use Rattle.day_pack.proofs.note.Statement.{statement}
 use Rattle.day_pack.proofs.note.Tie as tie
 

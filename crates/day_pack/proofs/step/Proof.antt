@@ -2,8 +2,8 @@
 use mathlib.Core.Bool.{Bool}
 use mathlib.Core.Path.{ap, sym}
 use Prim.Native.Nat.{◌+◌}
-use Rattle.paper.specs.Strings.{if◌then◌else◌}
 use borrow.Author.Rules.{rules}
+use Rattle.std.specs.Prelude.{if◌then◌else◌}
 use Rattle.day_pack.proofs.step.Statement.{statement}
 use Rattle.day_pack.proofs.step.Tie as tie
 

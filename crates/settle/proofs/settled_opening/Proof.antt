@@ -5,7 +5,7 @@ use Prim.Native.Nat.{ℕ}
 use borrow.Author.Rules.{rules}
 use borrow.Author.Tests.{lt-ltb, le-ltb}
 use lib.Dec.{ltb}
-use Rattle.paper.specs.Strings.{if◌then◌else◌}
+use Rattle.std.specs.Prelude.{if◌then◌else◌}
 use Rattle.paper.specs.Document01.{longest_sealed}
 use Rattle.settle.specs.Settled.{refusal, settled_common, settled_opening}
 use Rattle.settle.proofs.Settles.{first_is, opening_then}

@@ -6,7 +6,7 @@ use native.Mathlib.Omega.{arith}
 use borrow.Author.Rules.{rules}
 use borrow.Author.Tests.{lt-ltb, le-ltb}
 use lib.Dec.{ltb}
-use Rattle.paper.specs.Strings.{if◌then◌else◌}
+use Rattle.std.specs.Prelude.{if◌then◌else◌}
 use Rattle.paper.specs.Document01.{longest_sealed, longest_stretch}
 use Rattle.settle.specs.declared.Refusal.{Refusal}
 use Rattle.settle.specs.Settled.{refusal, settled_common, settled_sealing}
