@@ -1,5 +1,5 @@
-// What other programs link, from C and from Rust: the calls of the crates below, with the names, the order and the widths that stay.
-// There each slice is a pointer and then a length. No function asks anything of its caller.
+// The calls of the crates below, under the names, in the order and with the widths that stay for other programs. `aez_c` exports each of
+// them to C with the same clauses. No function asks anything of its caller.
 #![tactic(auto)]
 
 ghost use Rattle.std.specs.Prelude.{◌≡◌};
@@ -14,14 +14,7 @@ use day::Checked;
 use header::Reading;
 
 // Sealing.
-#[unsafe(no_mangle)]
-pub extern "C" fn aez_seal(
-    key: &[u8],
-    header: &[u8],
-    stretch: u64,
-    text: &[u8],
-    out: &mut [u8],
-) -> u32
+pub fn aez_seal(key: &[u8], header: &[u8], stretch: u64, text: &[u8], out: &mut [u8]) -> u32
     ensures { (result ≡ (sealing key.now header.now stretch text.now out.old).number) × (out.new ≡ (sealing key.now header.now stretch text.now out.old).output) }
 {
     let answer = record::seal(key, header, StretchBytes(stretch), text, out);
@@ -29,14 +22,7 @@ pub extern "C" fn aez_seal(
 }
 
 // Opening, the numbered form.
-#[unsafe(no_mangle)]
-pub extern "C" fn aez_open(
-    key: &[u8],
-    header: &[u8],
-    stretch: u64,
-    sealed: &[u8],
-    out: &mut [u8],
-) -> u32
+pub fn aez_open(key: &[u8], header: &[u8], stretch: u64, sealed: &[u8], out: &mut [u8]) -> u32
     ensures { (result ≡ (opening key.now header.now stretch sealed.now out.old).number) × (out.new ≡ (opening key.now header.now stretch sealed.now out.old).output) }
 {
     let answer = record::open(key, header, StretchBytes(stretch), sealed, out);
@@ -44,8 +30,7 @@ pub extern "C" fn aez_open(
 }
 
 // Sealing that also tells which entry of the header is bad (request E5): place is set at every return, and is 0 beside every answer but 3.
-#[unsafe(no_mangle)]
-pub extern "C" fn aez_seal_at(
+pub fn aez_seal_at(
     key: &[u8],
     header: &[u8],
     stretch: u64,
@@ -61,8 +46,7 @@ pub extern "C" fn aez_seal_at(
 }
 
 // Opening, the numbered form, that also tells which entry of the header is bad.
-#[unsafe(no_mangle)]
-pub extern "C" fn aez_open_at(
+pub fn aez_open_at(
     key: &[u8],
     header: &[u8],
     stretch: u64,
@@ -78,8 +62,7 @@ pub extern "C" fn aez_open_at(
 }
 
 // Reading a header by itself: 0 and how many strings it has, or 3 and which entry is bad.
-#[unsafe(no_mangle)]
-pub extern "C" fn aez_header_read(header: &[u8], strings: &mut u64, place: &mut u64) -> u32
+pub fn aez_header_read(header: &[u8], strings: &mut u64, place: &mut u64) -> u32
     ensures { (result ≡ (told (reading header.now)).number) × (strings.new ≡ (told (reading header.now)).strings) × (place.new ≡ (told (reading header.now)).place) }
 {
     match header::read(header) {
@@ -97,8 +80,7 @@ pub extern "C" fn aez_header_read(header: &[u8], strings: &mut u64, place: &mut 
 }
 
 // The log header.
-#[unsafe(no_mangle)]
-pub extern "C" fn aez_log_header(
+pub fn aez_log_header(
     nonce: &[u8],
     host: &[u8],
     collector: &[u8],
@@ -112,8 +94,7 @@ pub extern "C" fn aez_log_header(
 }
 
 // A day file of headers and sealed strings, each joined, with a list of their lengths, and of the records' header numbers and stretches.
-#[unsafe(no_mangle)]
-pub extern "C" fn aez_day_write(
+pub fn aez_day_write(
     lengths: &[u64],
     headers: &[u8],
     numbers: &[u64],
@@ -131,8 +112,7 @@ pub extern "C" fn aez_day_write(
 }
 
 // How many records a day file has.
-#[unsafe(no_mangle)]
-pub extern "C" fn aez_day_records(file: &[u8], records: &mut u64) -> u32
+pub fn aez_day_records(file: &[u8], records: &mut u64) -> u32
     ensures { (result ≡ (counting file.now).number) × (records.new ≡ (counting file.now).records) }
 {
     let Checked::Day {
@@ -149,14 +129,7 @@ pub extern "C" fn aez_day_records(file: &[u8], records: &mut u64) -> u32
 }
 
 // Opening a record of a day file by its number.
-#[unsafe(no_mangle)]
-pub extern "C" fn aez_day_open(
-    key: &[u8],
-    file: &[u8],
-    k: u64,
-    out: &mut [u8],
-    size: &mut u64,
-) -> u32
+pub fn aez_day_open(key: &[u8], file: &[u8], k: u64, out: &mut [u8], size: &mut u64) -> u32
     ensures { (result ≡ (opening_record key.now file.now k out.old).number) × (size.new ≡ (opening_record key.now file.now k out.old).size) × (out.new ≡ (opening_record key.now file.now k out.old).output) }
 {
     let answer = day_open::open(key, file, k as usize, out);
@@ -165,13 +138,7 @@ pub extern "C" fn aez_day_open(
 }
 
 // Where the headers and the records of a day file stand.
-#[unsafe(no_mangle)]
-pub extern "C" fn aez_day_list(
-    file: &[u8],
-    places: &mut [u64],
-    headers: &mut u64,
-    records: &mut u64,
-) -> u32
+pub fn aez_day_list(file: &[u8], places: &mut [u64], headers: &mut u64, records: &mut u64) -> u32
     ensures { (result ≡ (listing file.now places.old).number) × (headers.new ≡ (listing file.now places.old).headers) × (records.new ≡ (listing file.now places.old).records) × (places.new ≡ (listing file.now places.old).places) }
 {
     let listed = day_list::list(file, places);
@@ -181,8 +148,7 @@ pub extern "C" fn aez_day_list(
 }
 
 // A pause: a text under a header, in exact microseconds.
-#[unsafe(no_mangle)]
-pub extern "C" fn aez_pause(header: &[u8], text: &[u8], microseconds: &mut u64) -> u32
+pub fn aez_pause(header: &[u8], text: &[u8], microseconds: &mut u64) -> u32
     ensures { (result ≡ (pausing header.now text.now).number) × (microseconds.new ≡ (pausing header.now text.now).microseconds) }
 {
     let field = pause::read_field(header, text);
@@ -191,8 +157,7 @@ pub extern "C" fn aez_pause(header: &[u8], text: &[u8], microseconds: &mut u64) 
 }
 
 // The report of a day file, as a line.
-#[unsafe(no_mangle)]
-pub extern "C" fn aez_report(key: &[u8], file: &[u8], out: &mut [u8], size: &mut u64) -> u32
+pub fn aez_report(key: &[u8], file: &[u8], out: &mut [u8], size: &mut u64) -> u32
     ensures { (result ≡ (reporting key.now file.now out.old).number) × (size.new ≡ (reporting key.now file.now out.old).size) × (out.new ≡ (reporting key.now file.now out.old).output) }
 {
     let answer = ledger::report(key, file, out);
@@ -201,8 +166,7 @@ pub extern "C" fn aez_report(key: &[u8], file: &[u8], out: &mut [u8], size: &mut
 }
 
 // The report of a day file, as six numbers: read, refused, sum, longest, and the mean's fraction.
-#[unsafe(no_mangle)]
-pub extern "C" fn aez_report_figures(key: &[u8], file: &[u8], figures: &mut [u64]) -> u32
+pub fn aez_report_figures(key: &[u8], file: &[u8], figures: &mut [u64]) -> u32
     ensures { (result ≡ (reporting_figures key.now file.now figures.old).number) × (figures.new ≡ (reporting_figures key.now file.now figures.old).output) }
 {
     let answer = ledger::figures(key, file, figures);
@@ -210,13 +174,7 @@ pub extern "C" fn aez_report_figures(key: &[u8], file: &[u8], figures: &mut [u64
 }
 
 // Clearing records out of a day file that stands first in a buffer.
-#[unsafe(no_mangle)]
-pub extern "C" fn aez_day_clear(
-    buffer: &mut [u8],
-    size: u64,
-    dropped: &[u64],
-    new_size: &mut u64,
-) -> u32
+pub fn aez_day_clear(buffer: &mut [u8], size: u64, dropped: &[u64], new_size: &mut u64) -> u32
     ensures { (result ≡ (clearing buffer.old size dropped.now).number) × (new_size.new ≡ (clearing buffer.old size dropped.now).size) × (buffer.new ≡ (clearing buffer.old size dropped.now).output) }
 {
     let answer = day_clear::clear(buffer, size, dropped);
@@ -225,8 +183,7 @@ pub extern "C" fn aez_day_clear(
 }
 
 // Appending a record to a day file that stands first in a buffer.
-#[unsafe(no_mangle)]
-pub extern "C" fn aez_day_append(
+pub fn aez_day_append(
     buffer: &mut [u8],
     size: u64,
     number: u64,
