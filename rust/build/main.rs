@@ -4,17 +4,20 @@
 mod crates;
 mod progress;
 mod rt;
-mod temporary;
 
 use std::path::{Path, PathBuf};
 use std::process::exit;
 use std::time::SystemTime;
 use std::{env, fs, io};
 
-use crate::crates::Queue;
-
 /// The crate that the library is made from, with those that it needs.
-const NAME: &str = "aez";
+const NAME: &str = "aez_c";
+
+/// Where the library is put for those who link it, below the project's root.
+const LIBRARY: &str = "target/staticlib/libaez.a";
+
+/// The folders of a crate that are read when it is proved. rt writes beside them.
+const PARTS: [&str; 3] = ["src", "specs", "proofs"];
 
 fn main() {
     if let Err(message) = link_proved_library() {
@@ -29,26 +32,29 @@ fn link_proved_library() -> Result<(), String> {
     let root = Path::new(&package).join("..");
     let list = root.join("crates.txt");
     let lines = fs::read_to_string(&list).map_err(|error| trouble(&list, &error))?;
-    let queue = Queue::to(NAME, &lines);
-    if queue.is_empty() {
+    let crates = crates::needed_by(NAME, &lines);
+    if crates.is_empty() {
         return Err(format!("crates.txt does not list {NAME}"));
     }
-    let folder_of = |name| root.join("crates").join(name);
-    let mut sources: Vec<PathBuf> = queue.names().map(folder_of).collect();
-    sources.push(list);
+    let folder_of = |name: &str| root.join("crates").join(name);
+    let mut sources: Vec<PathBuf> = Vec::from([list]);
+    for name in &crates {
+        let parts = PARTS.map(|part| folder_of(name).join(part));
+        sources.extend(parts.into_iter().filter(|part| part.exists()));
+    }
 
-    let folder = root.join("target/staticlib");
-    let library = folder.join(format!("lib{NAME}.a"));
-    // The library too: `rt ci` removes it, and then it is to be built again.
+    let library = root.join(LIBRARY);
+    if !is_current(&library, &sources)? {
+        let folder = folder_of(NAME);
+        rt::prove_and_build(&folder, &crates)?;
+        put(&folder.join(format!("out/lib{NAME}.a")), &library)?;
+    }
     for path in sources.iter().chain([&library]) {
         println!("cargo:rerun-if-changed={}", path.display());
     }
-    if !is_current(&library, &sources)? {
-        let own = env::var_os("OUT_DIR").ok_or("cargo has not said where to write")?;
-        rt::prove_and_build(&root, Path::new(&own), queue)?;
-    }
+    let folder = library.parent().ok_or("the library is in no folder")?;
     println!("cargo:rustc-link-search=native={}", folder.display());
-    println!("cargo:rustc-link-lib=static={NAME}");
+    println!("cargo:rustc-link-lib=static=aez");
     // For the test that links it from C.
     println!("cargo:rustc-env=AEZ_LIBRARY={}", library.display());
     Ok(())
@@ -63,13 +69,13 @@ fn see_that_the_target_is_served() -> Result<(), String> {
     }
     Err(format!(
         "jarrovento needs x86-64 Linux, and this build is for {arch} {os}. The proved library, \
-         target/staticlib/lib{NAME}.a, is machine code, and the Rattle kit builds it for no other \
+         {LIBRARY}, is machine code, and the Rattle kit builds it for no other \
          system. Build and run it on such a machine, or in a container of one."
     ))
 }
 
-/// Whether the library is there and no source is newer. This is not left to rt: it
-/// proves the crate of a static library anew in every run, for about a minute.
+/// Whether the library is there and no source is newer. This is not left to rt: who is
+/// given a current library needs none, and with nothing to prove it still takes a while.
 fn is_current(library: &Path, sources: &[PathBuf]) -> Result<bool, String> {
     let Ok(built) = library.metadata().and_then(|found| found.modified()) else {
         return Ok(false);
@@ -94,6 +100,16 @@ fn newest(path: &Path) -> Result<SystemTime, String> {
         }
     }
     Ok(latest)
+}
+
+/// Puts a copy of the file there, whole or not at all.
+fn put(file: &Path, there: &Path) -> Result<(), String> {
+    let whole = there.with_extension("new");
+    if let Some(folder) = there.parent() {
+        fs::create_dir_all(folder).map_err(|error| trouble(folder, &error))?;
+    }
+    fs::copy(file, &whole).map_err(|error| trouble(file, &error))?;
+    fs::rename(&whole, there).map_err(|error| trouble(there, &error))
 }
 
 fn trouble(path: &Path, error: &io::Error) -> String {

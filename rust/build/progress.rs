@@ -1,10 +1,11 @@
-//! One line on the terminal, if there is one, that says what is being proved. The
+//! One line on the terminal, if there is one, that says how far the proofs are. The
 //! first build takes minutes, and cargo keeps what a build script prints to itself.
 
 use std::env;
 use std::fs::File;
 use std::io::Write;
 use std::sync::mpsc::{channel, RecvTimeoutError};
+use std::sync::{Mutex, MutexGuard, PoisonError};
 use std::thread;
 use std::time::{Duration, Instant};
 
@@ -16,6 +17,8 @@ pub struct Progress {
     terminal: Option<File>,
     started: Instant,
     crates: usize,
+    /// The crates that are done, in their order.
+    ended: Mutex<Vec<String>>,
 }
 
 impl Progress {
@@ -26,22 +29,16 @@ impl Progress {
             terminal: terminal.filter(|_| !plain),
             started: Instant::now(),
             crates,
+            ended: Mutex::default(),
         }
     }
 
-    /// Does the work, and shows every second where it is: how many crates are left,
-    /// and which are being proved.
-    pub fn during<T>(
-        &self,
-        standing: impl Fn() -> (usize, String) + Sync,
-        work: impl FnOnce() -> T,
-    ) -> T {
+    /// Does the work, and shows every second how far it is.
+    pub fn during<T>(&self, work: impl FnOnce() -> T) -> T {
         thread::scope(|scope| {
             let (working, ended) = channel::<()>();
-            let standing = &standing;
             scope.spawn(move || loop {
-                let (left, names) = standing();
-                self.show(self.crates - left, &names);
+                self.show();
                 let waited = ended.recv_timeout(Duration::from_secs(1));
                 if waited != Err(RecvTimeoutError::Timeout) {
                     break;
@@ -53,13 +50,26 @@ impl Progress {
         })
     }
 
-    fn show(&self, proved: usize, names: &str) {
+    /// The crate of this name is done, after those before it.
+    pub fn done(&self, name: &str) {
+        self.ended().push(name.to_string());
+    }
+
+    fn ended(&self) -> MutexGuard<'_, Vec<String>> {
+        self.ended.lock().unwrap_or_else(PoisonError::into_inner)
+    }
+
+    fn show(&self) {
         let seconds = self.started.elapsed().as_secs();
         let (minutes, seconds) = (seconds / 60, seconds % 60);
-        let crates = self.crates;
+        let ended = self.ended();
+        let (done, crates) = (ended.len(), self.crates);
+        let last = ended
+            .last()
+            .map_or(String::new(), |name| format!(", {name} the last"));
         // The cursor goes back to the start, where cargo writes lines of its own.
         self.write(&format!(
-            "\r     Proving {names} ({proved} of {crates} crates proved, {minutes}:{seconds:02} so far)\
+            "\r     Proving ({done} of {crates} crates done{last}, {minutes}:{seconds:02} so far)\
              {CLEAR}\r"
         ));
     }
