@@ -1,6 +1,7 @@
 /*
  * Seals and opens log records with AEZ: the functions of libaez.a, which
- * `rt staticlib aez` proves and builds (target/staticlib/libaez.a, for x86-64).
+ * `cargo build` has rt prove and build (target/staticlib/libaez.a, for x86-64).
+ * `rt lib` in crates/aez_c writes the same library as out/libaez_c.a.
  *
  * A slice is a pointer and then its length in bytes, or, where it points at
  * uint64_t, in numbers. Of the caller is asked:

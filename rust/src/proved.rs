@@ -10,7 +10,7 @@
 //! `day` and `ledger`.
 //!
 //! That the declarations below are the functions that the library exports is
-//! checked by no compiler. Names, order and widths stand in `crates/aez/src/lib.rt`.
+//! checked by no compiler. Names, order and widths stand in `crates/aez_c/src/lib.rt`.
 //!
 //! Sealing, opening and the log header builder return their number alone. The length
 //! of what they wrote is worked out here, after answer 0 only, by formulas that are
