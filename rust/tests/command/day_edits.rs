@@ -1,7 +1,7 @@
 //! `day clear` and `day add`.
 
 use std::fs::{self, Permissions};
-use std::os::unix::fs::{symlink, PermissionsExt};
+use std::os::unix::fs::PermissionsExt;
 use std::path::Path;
 use std::process::Command;
 
@@ -9,7 +9,7 @@ use jarrovento::{BadEntry, Refusal};
 use second::{day_edits, day_file, document01};
 use support::{counting, day_file as file_of, hex, unhex};
 
-use crate::{done, fails, file, folder, jarrovento, names, HEADER, SAMPLE_DAY, SAMPLE_KEY};
+use crate::{done, fails, file, folder, jarrovento, names, Link, HEADER, SAMPLE_DAY, SAMPLE_KEY};
 
 /// A copy of the sample, which may be changed.
 fn sample_in(folder: &Path) -> String {
@@ -304,8 +304,7 @@ fn links_and_permissions() {
     let folder = folder("day_edits_links");
     let day = sample_in(&folder);
     fs::set_permissions(&day, Permissions::from_mode(0o640)).unwrap();
-    let link = folder.join("link");
-    symlink("day", &link).unwrap();
+    let link = Link::to("day", folder.join("link"));
     let words = ["day", "clear", link.to_str().unwrap(), "--drop", "0"];
     done(&jarrovento(&words, b""));
     assert!(link.is_symlink());

@@ -1,6 +1,5 @@
 //! `--help` and `demo`: what they show is what comes out.
 
-use std::os::unix::fs::symlink;
 use std::path::Path;
 use std::process::Command;
 
@@ -8,7 +7,7 @@ use jarrovento::Refusal;
 use second::document01;
 use support::{counting, header, hex};
 
-use crate::{done, folder, jarrovento, run};
+use crate::{done, folder, jarrovento, run, Link};
 
 #[test]
 fn help_names_every_refusal() {
@@ -70,7 +69,7 @@ fn the_use_in_the_help_comes_out_as_shown() {
         .unwrap();
     // As from the root of the repository, and what is written is not left there.
     let folder = folder("help");
-    symlink(env!("CARGO_MANIFEST_DIR"), folder.join("rust")).unwrap();
+    let _rust = Link::to(env!("CARGO_MANIFEST_DIR"), folder.join("rust"));
     for (command, output) in shown {
         let mut shell = Command::new("sh");
         shell

@@ -17,6 +17,8 @@ mod trouble;
 use std::ffi::OsStr;
 use std::fs;
 use std::io::Write;
+use std::ops::Deref;
+use std::os::unix::fs::symlink;
 use std::path::{Path, PathBuf};
 use std::process::{Command, Stdio};
 
@@ -72,6 +74,31 @@ fn folder(test: &str) -> PathBuf {
     }
     fs::create_dir_all(&folder).unwrap();
     folder
+}
+
+/// A link, which goes with the test whatever comes of that: `rt ci` refuses a project
+/// that has one left, also where cargo builds.
+struct Link(PathBuf);
+
+impl Link {
+    fn to(target: &str, at: PathBuf) -> Link {
+        symlink(target, &at).unwrap();
+        Link(at)
+    }
+}
+
+impl Deref for Link {
+    type Target = Path;
+
+    fn deref(&self) -> &Path {
+        &self.0
+    }
+}
+
+impl Drop for Link {
+    fn drop(&mut self) {
+        let _ = fs::remove_file(&self.0);
+    }
 }
 
 /// The names in a folder, in order.

@@ -3,13 +3,13 @@
 
 use std::fs::{self, File, Permissions};
 use std::io::Read;
-use std::os::unix::fs::{chown, symlink, FileTypeExt, MetadataExt, PermissionsExt};
+use std::os::unix::fs::{chown, FileTypeExt, MetadataExt, PermissionsExt};
 use std::process::Command;
 use std::thread;
 
 use support::unhex;
 
-use crate::{done, fails, file, folder, jarrovento, names, program, run};
+use crate::{done, fails, file, folder, jarrovento, names, program, run, Link};
 
 /// A log header, as hex; `header` needs no file but its output.
 const BUILT: &str = "0400010100026e3700000000";
@@ -99,8 +99,7 @@ fn a_link_stays_and_what_it_leads_to_is_replaced() {
     let target = file(&there, "file", b"as it was");
     fs::set_permissions(&target, Permissions::from_mode(0o600)).unwrap();
     let mut old = File::open(&target).unwrap();
-    let link = here.join("link");
-    symlink("../there/file", &link).unwrap();
+    let link = Link::to("../there/file", here.join("link"));
     done(&jarrovento(&header(link.to_str().unwrap()), b""));
     assert!(link.is_symlink());
     assert_eq!(fs::read(&target).unwrap(), unhex(BUILT));
@@ -115,8 +114,7 @@ fn a_link_stays_and_what_it_leads_to_is_replaced() {
 #[test]
 fn a_link_to_no_file_makes_it() {
     let folder = folder("dangling");
-    let link = folder.join("link");
-    symlink("file", &link).unwrap();
+    let link = Link::to("file", folder.join("link"));
     done(&jarrovento(&header(link.to_str().unwrap()), b""));
     assert!(link.is_symlink());
     assert_eq!(fs::read(folder.join("file")).unwrap(), unhex(BUILT));
