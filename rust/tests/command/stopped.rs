@@ -5,6 +5,7 @@ use std::fs;
 use std::os::unix::process::ExitStatusExt;
 use std::path::{Path, PathBuf};
 use std::process::{Command, Stdio};
+use std::sync::OnceLock;
 use std::thread::sleep;
 use std::time::{Duration, Instant};
 
@@ -72,8 +73,14 @@ impl Case {
     }
 }
 
-/// The library that stops the command.
+/// The library that stops the command. It is compiled once, since the tests that use it
+/// run side by side.
 fn stopping() -> PathBuf {
+    static LIBRARY: OnceLock<PathBuf> = OnceLock::new();
+    LIBRARY.get_or_init(compiled).clone()
+}
+
+fn compiled() -> PathBuf {
     let library = folder("stop_at").join("stop_at.so");
     let compiled = Command::new("cc")
         .args([
