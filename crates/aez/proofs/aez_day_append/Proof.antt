@@ -5,12 +5,6 @@ use borrow.Author.Rules.{rules}
 use Rattle.aez.proofs.aez_day_append.Statement.{statement}
 use Rattle.aez.proofs.aez_day_append.Tie as tie
 
-append-answer-requires : tie.Need-append-answer-requires
-append-answer-requires c κs = search rules
-
-shape_of-buffer : tie.Need-shape_of-buffer
-shape_of-buffer c = search rules
-
 returns : tie.Need-returns
 returns c =
     let e = c.append-answer.ensures in
@@ -18,6 +12,6 @@ returns c =
 
 pub aez_day_append_spec : {M : Type 1} → statement M
 aez_day_append_spec = tie.close (tie.spec
-    append-answer-requires
-    shape_of-buffer
+    (λ c κs. search rules)
+    (λ c. search rules)
     returns)

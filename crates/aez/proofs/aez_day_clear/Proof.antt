@@ -5,12 +5,6 @@ use borrow.Author.Rules.{rules}
 use Rattle.aez.proofs.aez_day_clear.Statement.{statement}
 use Rattle.aez.proofs.aez_day_clear.Tie as tie
 
-clear-answer-requires : tie.Need-clear-answer-requires
-clear-answer-requires c κs = search rules
-
-shape_of-buffer : tie.Need-shape_of-buffer
-shape_of-buffer c = search rules
-
 returns : tie.Need-returns
 returns c =
     let e = c.clear-answer.ensures in
@@ -18,6 +12,6 @@ returns c =
 
 pub aez_day_clear_spec : {M : Type 1} → statement M
 aez_day_clear_spec = tie.close (tie.spec
-    clear-answer-requires
-    shape_of-buffer
+    (λ c κs. search rules)
+    (λ c. search rules)
     returns)

@@ -5,12 +5,6 @@ use borrow.Author.Rules.{rules}
 use Rattle.aez.proofs.aez_day_list.Statement.{statement}
 use Rattle.aez.proofs.aez_day_list.Tie as tie
 
-list-listed-requires : tie.Need-list-listed-requires
-list-listed-requires c κs = search rules
-
-shape_of-places : tie.Need-shape_of-places
-shape_of-places c = search rules
-
 returns : tie.Need-returns
 returns c =
     let e = c.list-listed.ensures in
@@ -18,6 +12,6 @@ returns c =
 
 pub aez_day_list_spec : {M : Type 1} → statement M
 aez_day_list_spec = tie.close (tie.spec
-    list-listed-requires
-    shape_of-places
+    (λ c κs. search rules)
+    (λ c. search rules)
     returns)

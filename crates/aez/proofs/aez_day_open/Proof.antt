@@ -5,12 +5,6 @@ use borrow.Author.Rules.{rules}
 use Rattle.aez.proofs.aez_day_open.Statement.{statement}
 use Rattle.aez.proofs.aez_day_open.Tie as tie
 
-open-answer-requires : tie.Need-open-answer-requires
-open-answer-requires c κs = search rules
-
-shape_of-out : tie.Need-shape_of-out
-shape_of-out c = search rules
-
 returns : tie.Need-returns
 returns c =
     let e = c.open-answer.ensures in
@@ -18,6 +12,6 @@ returns c =
 
 pub aez_day_open_spec : {M : Type 1} → statement M
 aez_day_open_spec = tie.close (tie.spec
-    open-answer-requires
-    shape_of-out
+    (λ c κs. search rules)
+    (λ c. search rules)
     returns)

@@ -26,15 +26,6 @@ read f headers records first e = go (read_day f) e
     go none e = ((cc), (cc))
     go (some day) e = (refl, (cc))
 
-check-requires : tie.Need-check-requires
-check-requires c κs = search rules
-
-enum_known-n : tie.Need-enum_known-n
-enum_known-n c = search rules
-
-enum_told-1 : tie.Need-enum_told-1
-enum_told-1 c = search rules
-
 returns-in_default : tie.Need-returns-in_default
 returns-in_default c =
     let k = c.before in
@@ -48,8 +39,8 @@ returns c =
 
 pub aez_day_records_spec : {M : Type 1} → statement M
 aez_day_records_spec = tie.close (tie.spec
-    check-requires
-    enum_known-n
-    enum_told-1
+    (λ c κs. search rules)
+    (λ c. search rules)
+    (λ c. search rules)
     returns-in_default
     returns)

@@ -17,15 +17,6 @@ not_read : (r : Read) (k : ℕ) → Bad k ≡ read_as r → (3 ≡ (told r).numb
 not_read (bad_entry j) k e = ((cc), (cc), (cc))
 not_read (as_strings ss) k e = ((cc), (cc), (cc))
 
-read-requires : tie.Need-read-requires
-read-requires c κs = search rules
-
-enum_known-n : tie.Need-enum_known-n
-enum_known-n c = search rules
-
-enum_known-k : tie.Need-enum_known-k
-enum_known-k c = search rules
-
 returns-in-Strings : tie.Need-returns-in-Strings
 returns-in-Strings c =
     let given = c in
@@ -40,8 +31,8 @@ returns-in-Bad c =
 
 pub aez_header_read_spec : {M : Type 1} → statement M
 aez_header_read_spec = tie.close (tie.spec
-    read-requires
-    enum_known-n
-    enum_known-k
+    (λ c κs. search rules)
+    (λ c. search rules)
+    (λ c. search rules)
     returns-in-Strings
     returns-in-Bad)

@@ -5,12 +5,6 @@ use Rattle.paper.specs.Document01.{Outcome}
 use Rattle.aez.proofs.aez_log_header.Statement.{statement}
 use Rattle.aez.proofs.aez_log_header.Tie as tie
 
-log_header-answer-requires : tie.Need-log_header-answer-requires
-log_header-answer-requires c κs = search rules
-
-shape_of-out : tie.Need-shape_of-out
-shape_of-out c = search rules
-
 returns : tie.Need-returns
 returns c =
     let e = c.before.before.log_header-answer.ensures in
@@ -18,6 +12,6 @@ returns c =
 
 pub aez_log_header_spec : {M : Type 1} → statement M
 aez_log_header_spec = tie.close (tie.spec
-    log_header-answer-requires
-    shape_of-out
+    (λ c κs. search rules)
+    (λ c. search rules)
     returns)

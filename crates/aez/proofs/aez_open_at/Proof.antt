@@ -5,12 +5,6 @@ use Rattle.paper.specs.Document01.{OutcomeAt}
 use Rattle.aez.proofs.aez_open_at.Statement.{statement}
 use Rattle.aez.proofs.aez_open_at.Tie as tie
 
-open-opened-requires : tie.Need-open-opened-requires
-open-opened-requires c κs = search rules
-
-shape_of-out : tie.Need-shape_of-out
-shape_of-out c = search rules
-
 returns : tie.Need-returns
 returns c =
     let e = c.open-opened.ensures in
@@ -18,6 +12,6 @@ returns c =
 
 pub aez_open_at_spec : {M : Type 1} → statement M
 aez_open_at_spec = tie.close (tie.spec
-    open-opened-requires
-    shape_of-out
+    (λ c κs. search rules)
+    (λ c. search rules)
     returns)

@@ -5,9 +5,6 @@ use borrow.Author.Rules.{rules}
 use Rattle.aez.proofs.aez_pause.Statement.{statement}
 use Rattle.aez.proofs.aez_pause.Tie as tie
 
-read_field-field-requires : tie.Need-read_field-field-requires
-read_field-field-requires c κs = search rules
-
 returns : tie.Need-returns
 returns c =
     let e = c.read_field-field.ensures in
@@ -15,5 +12,5 @@ returns c =
 
 pub aez_pause_spec : {M : Type 1} → statement M
 aez_pause_spec = tie.close (tie.spec
-    read_field-field-requires
+    (λ c κs. search rules)
     returns)

@@ -5,12 +5,6 @@ use borrow.Author.Rules.{rules}
 use Rattle.aez.proofs.aez_report.Statement.{statement}
 use Rattle.aez.proofs.aez_report.Tie as tie
 
-report-answer-requires : tie.Need-report-answer-requires
-report-answer-requires c κs = search rules
-
-shape_of-out : tie.Need-shape_of-out
-shape_of-out c = search rules
-
 returns : tie.Need-returns
 returns c =
     let e = c.report-answer.ensures in
@@ -18,6 +12,6 @@ returns c =
 
 pub aez_report_spec : {M : Type 1} → statement M
 aez_report_spec = tie.close (tie.spec
-    report-answer-requires
-    shape_of-out
+    (λ c κs. search rules)
+    (λ c. search rules)
     returns)

@@ -5,12 +5,6 @@ use borrow.Author.Rules.{rules}
 use Rattle.aez.proofs.aez_report_figures.Statement.{statement}
 use Rattle.aez.proofs.aez_report_figures.Tie as tie
 
-figures-answer-requires : tie.Need-figures-answer-requires
-figures-answer-requires c κs = search rules
-
-shape_of-figures : tie.Need-shape_of-figures
-shape_of-figures c = search rules
-
 returns : tie.Need-returns
 returns c =
     let e = c.figures-answer.ensures in
@@ -18,6 +12,6 @@ returns c =
 
 pub aez_report_figures_spec : {M : Type 1} → statement M
 aez_report_figures_spec = tie.close (tie.spec
-    figures-answer-requires
-    shape_of-figures
+    (λ c κs. search rules)
+    (λ c. search rules)
     returns)

@@ -5,12 +5,6 @@ use Rattle.paper.specs.Document01.{OutcomeAt}
 use Rattle.aez.proofs.aez_seal.Statement.{statement}
 use Rattle.aez.proofs.aez_seal.Tie as tie
 
-seal-answer-requires : tie.Need-seal-answer-requires
-seal-answer-requires c κs = search rules
-
-shape_of-out : tie.Need-shape_of-out
-shape_of-out c = search rules
-
 returns : tie.Need-returns
 returns c =
     let e = c.seal-answer.ensures in
@@ -18,6 +12,6 @@ returns c =
 
 pub aez_seal_spec : {M : Type 1} → statement M
 aez_seal_spec = tie.close (tie.spec
-    seal-answer-requires
-    shape_of-out
+    (λ c κs. search rules)
+    (λ c. search rules)
     returns)

@@ -21,26 +21,11 @@ decreases-loop-i s r₀ i₀ r i = length s - i
 loop-i-init : tie.Need-loop-i-init invariant-loop-i decreases-loop-i
 loop-i-init c = (omega arith, refl)
 
-bounds-s-i : tie.Need-bounds-s-i invariant-loop-i decreases-loop-i
-bounds-s-i c = search rules
-
-bounds-r-i : tie.Need-bounds-r-i invariant-loop-i decreases-loop-i
-bounds-r-i c = search rules
-
-overflow_add-i : tie.Need-overflow_add-i invariant-loop-i decreases-loop-i
-overflow_add-i c = search rules
-
-loop-i-smaller : tie.Need-loop-i-smaller invariant-loop-i decreases-loop-i
-loop-i-smaller c = search rules
-
 loop-i-preserved : tie.Need-loop-i-preserved invariant-loop-i decreases-loop-i
 loop-i-preserved c =
     let l = c.loop-i in
     let s = c.args.s.now in
     (omega arith, over_more (replicate 16 0) s l.r l.i _ (omega arith) (omega arith) refl l.invariant.1)
-
-bounds-r-i-2 : tie.Need-bounds-r-i-2 invariant-loop-i decreases-loop-i
-bounds-r-i-2 c = search rules
 
 returns : tie.Need-returns invariant-loop-i decreases-loop-i
 unfolding pad10*
@@ -58,10 +43,10 @@ pad_spec =
     invariant-loop-i
     decreases-loop-i
     loop-i-init
-    bounds-s-i
-    bounds-r-i
-    overflow_add-i
-    loop-i-smaller
+    (λ c. search rules)
+    (λ c. search rules)
+    (λ c. search rules)
+    (λ c. search rules)
     loop-i-preserved
-    bounds-r-i-2
+    (λ c. search rules)
     returns)

@@ -24,21 +24,6 @@ loop-i-init c =
     let lb : length b ≡ 16 = search rules in
     (omega arith, record { long = sym (⊕_length a b (omega arith) ∙ la); same = refl })
 
-bounds-a-i : tie.Need-bounds-a-i invariant-loop-i decreases-loop-i
-bounds-a-i c = search rules
-
-bounds-b-i : tie.Need-bounds-b-i invariant-loop-i decreases-loop-i
-bounds-b-i c = search rules
-
-bounds-r-i : tie.Need-bounds-r-i invariant-loop-i decreases-loop-i
-bounds-r-i c = search rules
-
-overflow_add-i : tie.Need-overflow_add-i invariant-loop-i decreases-loop-i
-overflow_add-i c = search rules
-
-loop-i-smaller : tie.Need-loop-i-smaller invariant-loop-i decreases-loop-i
-loop-i-smaller c = search rules
-
 loop-i-preserved : tie.Need-loop-i-preserved invariant-loop-i decreases-loop-i
 loop-i-preserved c =
     let l = c.loop-i in
@@ -64,10 +49,10 @@ xor_spec =
     invariant-loop-i
     decreases-loop-i
     loop-i-init
-    bounds-a-i
-    bounds-b-i
-    bounds-r-i
-    overflow_add-i
-    loop-i-smaller
+    (λ c. search rules)
+    (λ c. search rules)
+    (λ c. search rules)
+    (λ c. search rules)
+    (λ c. search rules)
     loop-i-preserved
     returns)

@@ -34,53 +34,46 @@ module _ (s : tie.Start) where
   header = log_header s.args.nonce.now s.args.host.now s.args.collector.now s.args.locale.now
 
 -- where 0 is settled, the items fit and the output has room
-accepted : (c : tie.Else-number-ne0) → (long (start c.before) ≡ false) × (length (header (start c.before)) ≤ length (start c.before).args.out.now)
-accepted c =
-    let a = (start c.before).args in
-    accepts a.nonce.now a.host.now a.collector.now a.locale.now c.settled-number.result _ c.settled-number.ensures c.if-number-ne0.false
+accepted : (c : tie.After-settled-number) → c.settled-number.result ≡ 0 → (long (start c) ≡ false) × (length (header (start c)) ≤ length (start c).args.out.now)
+accepted c zero =
+    let a = (start c).args in
+    accepts a.nonce.now a.host.now a.collector.now a.locale.now c.settled-number.result _ c.settled-number.ensures zero
 
 -- and the header was put
 abbrev put : tie.After-slice_known-2-1 → tie.After-put_log
 put c = c.before.before
 
-abbrev passed : tie.After-put_log → tie.Else-number-ne0
-passed c = c.before.before
+abbrev passed : tie.After-put_log → tie.After-settled-number
+passed c = c.before.before.before
 
-settled-number-requires : tie.Need-settled-number-requires
-settled-number-requires c κs = search rules
-
-returns-then-number-ne0 : tie.Need-returns-then-number-ne0
-returns-then-number-ne0 c =
-    let a = (start c.before).args in
-    sym (refuses a.nonce.now a.host.now a.collector.now a.locale.now c.settled-number.result a.out.now c.settled-number.ensures c.if-number-ne0.true)
+zero : (c : tie.After-put_log) → (passed c).settled-number.result ≡ 0
+zero c = omega arith
 
 put_log-requires : tie.Need-put_log-requires
-put_log-requires c κs = (accepted c.before).1
+put_log-requires c κs = (accepted c.before.before (omega arith)).1
 
 log_length-length-requires : tie.Need-log_length-length-requires
 log_length-length-requires c κs =
     let p = passed (put c) in
-    let a = (start p.before).args in
-    items_fit a.nonce.now a.host.now a.collector.now a.locale.now (accepted p).0
-
-shape_of-out : tie.Need-shape_of-out
-shape_of-out c = search rules
+    let a = (start p).args in
+    items_fit a.nonce.now a.host.now a.collector.now a.locale.now (accepted p (zero (put c))).0
 
 returns : tie.Need-returns
 returns c =
     let written = (put c.before).put_log in
     let p = passed (put c.before) in
-    let a = (start p.before).args in
-    wrote p.settled-number.result c.log_length-length.result (header (start p.before)) a.out.now written.new.out p.if-number-ne0.false c.log_length-length.ensures written.ensures
-    ∙ sym (builds_0 a.nonce.now a.host.now a.collector.now a.locale.now (accepted p).0 a.out.now (accepted p).1)
+    let a = (start p).args in
+    let fits = accepted p (zero (put c.before)) in
+    wrote p.settled-number.result c.log_length-length.result (header (start p)) a.out.now written.new.out (zero (put c.before)) c.log_length-length.ensures written.ensures
+    ∙ sym (builds_0 a.nonce.now a.host.now a.collector.now a.locale.now fits.0 a.out.now fits.1)
 
 pub log_header_spec : {M : Type 1} → statement M
 log_header_spec =
     tie.close
     (tie.spec
-    settled-number-requires
-    returns-then-number-ne0
+    (λ c κs. search rules)
+    (λ c. let a = (start c.before).args in sym (refuses a.nonce.now a.host.now a.collector.now a.locale.now c.settled-number.result a.out.now c.settled-number.ensures (λ e. omega arith)))
     put_log-requires
     log_length-length-requires
-    shape_of-out
+    (λ c. search rules)
     returns)

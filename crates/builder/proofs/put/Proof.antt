@@ -29,24 +29,6 @@ two c = c.before.before.before.before
 abbrev start : tie.After-put_two → tie.Start
 start c = c.before.before.before.before
 
-put_two-requires : tie.Need-put_two-requires
-put_two-requires c κs = search rules
-
-overflow_add-at : tie.Need-overflow_add-at
-overflow_add-at c = search rules
-
-copy-requires : tie.Need-copy-requires
-copy-requires c κs = search rules
-
-overflow_add-result : tie.Need-overflow_add-result
-overflow_add-result c = search rules
-
-overflow_add-result-2 : tie.Need-overflow_add-result-2
-overflow_add-result-2 c = search rules
-
-shape_of-out : tie.Need-shape_of-out
-shape_of-out c = search rules
-
 returns : tie.Need-returns
 returns c =
     let copied = c.before.before in
@@ -59,10 +41,10 @@ pub put_spec : {M : Type 1} → statement M
 put_spec =
     tie.close
     (tie.spec
-    put_two-requires
-    overflow_add-at
-    copy-requires
-    overflow_add-result
-    overflow_add-result-2
-    shape_of-out
+    (λ c κs. search rules)
+    (λ c. search rules)
+    (λ c κs. search rules)
+    (λ c. search rules)
+    (λ c. search rules)
+    (λ c. search rules)
     returns)

@@ -5,13 +5,10 @@ use Rattle.builder.proofs.Items.{one_long}
 use Rattle.builder.proofs.room.Statement.{statement}
 use Rattle.builder.proofs.room.Tie as tie
 
-overflow_add-result : tie.Need-overflow_add-result
-overflow_add-result c = search rules
-
 returns : tie.Need-returns
 returns c = (omega (arith, one_long c.args.s.now), omega arith)
 
 pub room_spec : {M : Type 1} → statement M
 room_spec = tie.close (tie.spec
-    overflow_add-result
+    (λ c. search rules)
     returns)

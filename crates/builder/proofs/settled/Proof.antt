@@ -34,9 +34,6 @@ module _ (s : tie.Start) where
 short : (c : tie.Else-too_long) → long (start c.before) ≡ false
 short c = sym c.too_long.ensures ∙ c.if-too_long.false
 
-too_long-requires : tie.Need-too_long-requires
-too_long-requires c κs = search rules
-
 returns-then-too_long : tie.Need-returns-then-too_long
 returns-then-too_long c = answer (start c.before) true _ (sym c.too_long.ensures ∙ c.if-too_long.true) refl
 
@@ -58,7 +55,7 @@ returns c =
 pub settled_spec : {M : Type 1} → statement M
 settled_spec =
     tie.close (tie.spec
-    too_long-requires
+    (λ c κs. search rules)
     returns-then-too_long
     log_length-requires
     returns-then-bytes-log_length

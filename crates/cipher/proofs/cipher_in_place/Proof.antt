@@ -23,32 +23,11 @@ enciphering c = c.before.before
 abbrev deciphering : tie.After-decipher → tie.In-Decipher
 deciphering c = c.before.before
 
-core_in_place-requires : tie.Need-core_in_place-requires
-core_in_place-requires c κs = search rules
-
-shape_of-s-then-s-ge32 : tie.Need-shape_of-s-then-s-ge32
-shape_of-s-then-s-ge32 c = search rules
-
 returns-then-s-ge32 : tie.Need-returns-then-s-ge32
 returns-then-s-ge32 c =
     let e = c.before.before in
     let s = (long e).before.before in
     by_core (f s) s.args.delta (X s) e.core_in_place.new.s s.args.way (long e).if-s-ge32.true e.core_in_place.ensures
-
-enum_told-1 : tie.Need-enum_told-1
-enum_told-1 c = search rules
-
-encipher-requires : tie.Need-encipher-requires
-encipher-requires c κs = search rules
-
-enum_told-in-Decipher : tie.Need-enum_told-in-Decipher
-enum_told-in-Decipher c = search rules
-
-decipher-requires : tie.Need-decipher-requires
-decipher-requires c κs = search rules
-
-shape_of-s-in-Encipher : tie.Need-shape_of-s-in-Encipher
-shape_of-s-in-Encipher c = search rules
 
 returns-in-Encipher : tie.Need-returns-in-Encipher
 returns-in-Encipher c =
@@ -56,9 +35,6 @@ returns-in-Encipher c =
     let short = (enciphering e).before in
     let s = short.before.before in
     by_tiny (f s) s.args.delta (X s) e.encipher.new.s short.if-s-ge32.false s.args.way (enciphering e).in-Encipher.is e.encipher.ensures
-
-shape_of-s-in-Decipher : tie.Need-shape_of-s-in-Decipher
-shape_of-s-in-Decipher c = search rules
 
 returns-in-Decipher : tie.Need-returns-in-Decipher
 returns-in-Decipher c =
@@ -71,14 +47,14 @@ pub cipher_in_place_spec : {M : Type 1} → statement M
 cipher_in_place_spec =
     tie.close
     (tie.spec
-    core_in_place-requires
-    shape_of-s-then-s-ge32
+    (λ c κs. search rules)
+    (λ c. search rules)
     returns-then-s-ge32
-    enum_told-1
-    encipher-requires
-    enum_told-in-Decipher
-    decipher-requires
-    shape_of-s-in-Encipher
+    (λ c. search rules)
+    (λ c κs. search rules)
+    (λ c. search rules)
+    (λ c κs. search rules)
+    (λ c. search rules)
     returns-in-Encipher
-    shape_of-s-in-Decipher
+    (λ c. search rules)
     returns-in-Decipher)

@@ -71,59 +71,14 @@ answers c b e =
     let mid = (copied d).copy.new.s in
     answer (f s) s.args.delta (t s) (C s) mid (X d) (put (copied d)) d.cipher_in_place.ensures d.cipher_in_place.auto.s (more (other (copied d))) c.same_bytes.result b e s.requires.4 c.same_bytes.ensures
 
-decrypt_empty-requires : tie.Need-decrypt_empty-requires
-decrypt_empty-requires c κs = search rules
-
-shape_of-out-then-n-stretch : tie.Need-shape_of-out-then-n-stretch
-shape_of-out-then-n-stretch c = search rules
-
 returns-then-n-stretch : tie.Need-returns-then-n-stretch
 returns-then-n-stretch c =
     let d = c.before.before in
     let s = (equal d).before.before.before in
     empty_answer (f s) s.args.delta (t s) (C s) d.decrypt_empty.result (length s.args.out.now) d.decrypt_empty.new.out (equal d).if-n-stretch.true s.requires.1 d.decrypt_empty.ensures.0 d.decrypt_empty.ensures.1
 
-copy-requires : tie.Need-copy-requires
-copy-requires c κs = search rules
-
-cipher_in_place-requires : tie.Need-cipher_in_place-requires
-cipher_in_place-requires c κs = search rules
-
-overflow_sub-at : tie.Need-overflow_sub-at
-overflow_sub-at c = search rules
-
-slice_bounds-same_bytes-count : tie.Need-slice_bounds-same_bytes-count
-slice_bounds-same_bytes-count c = search rules
-
-slice_bounds-same_bytes-start : tie.Need-slice_bounds-same_bytes-start
-slice_bounds-same_bytes-start c = search rules
-
-slice_bounds-same_bytes-end : tie.Need-slice_bounds-same_bytes-end
-slice_bounds-same_bytes-end c = search rules
-
-slice_bounds-same_bytes-count-2 : tie.Need-slice_bounds-same_bytes-count-2
-slice_bounds-same_bytes-count-2 c = search rules
-
-slice_bounds-same_bytes-start-2 : tie.Need-slice_bounds-same_bytes-start-2
-slice_bounds-same_bytes-start-2 c = search rules
-
-slice_bounds-same_bytes-end-2 : tie.Need-slice_bounds-same_bytes-end-2
-slice_bounds-same_bytes-end-2 c = search rules
-
-same_bytes-requires : tie.Need-same_bytes-requires
-same_bytes-requires c κs = search rules
-
-shape_of-out-then-same_bytes : tie.Need-shape_of-out-then-same_bytes
-shape_of-out-then-same_bytes c = search rules
-
 returns-then-same_bytes : tie.Need-returns-then-same_bytes
 returns-then-same_bytes c = answers c.before true c.if-same_bytes.true
-
-clear-requires : tie.Need-clear-requires
-clear-requires c κs = search rules
-
-shape_of-out : tie.Need-shape_of-out
-shape_of-out c = search rules
 
 returns : tie.Need-returns
 returns c =
@@ -136,21 +91,21 @@ pub decrypt_spec : {M : Type 1} → statement M
 decrypt_spec =
     tie.close
     (tie.spec
-    decrypt_empty-requires
-    shape_of-out-then-n-stretch
+    (λ c κs. search rules)
+    (λ c. search rules)
     returns-then-n-stretch
-    copy-requires
-    cipher_in_place-requires
-    overflow_sub-at
-    slice_bounds-same_bytes-count
-    slice_bounds-same_bytes-start
-    slice_bounds-same_bytes-end
-    slice_bounds-same_bytes-count-2
-    slice_bounds-same_bytes-start-2
-    slice_bounds-same_bytes-end-2
-    same_bytes-requires
-    shape_of-out-then-same_bytes
+    (λ c κs. search rules)
+    (λ c κs. search rules)
+    (λ c. search rules)
+    (λ c. search rules)
+    (λ c. search rules)
+    (λ c. search rules)
+    (λ c. search rules)
+    (λ c. search rules)
+    (λ c. search rules)
+    (λ c κs. search rules)
+    (λ c. search rules)
     returns-then-same_bytes
-    clear-requires
-    shape_of-out
+    (λ c κs. search rules)
+    (λ c. search rules)
     returns)

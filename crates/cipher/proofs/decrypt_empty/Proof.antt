@@ -23,18 +23,6 @@ start c = c.before.before.before.before
 abbrev C : tie.Start → Bytes
 C s = s.args.sealed.now
 
-prf-requires : tie.Need-prf-requires
-prf-requires c κs = search rules
-
-same_bytes-right-requires : tie.Need-same_bytes-right-requires
-same_bytes-right-requires c κs = search rules
-
-clear-requires : tie.Need-clear-requires
-clear-requires c κs = search rules
-
-shape_of-out : tie.Need-shape_of-out
-shape_of-out c = search rules
-
 returns : tie.Need-returns
 returns c =
     let cleared = c.before.before in
@@ -48,8 +36,8 @@ returns c =
 pub decrypt_empty_spec : {M : Type 1} → statement M
 decrypt_empty_spec =
     tie.close (tie.spec
-    prf-requires
-    same_bytes-right-requires
-    clear-requires
-    shape_of-out
+    (λ c κs. search rules)
+    (λ c κs. search rules)
+    (λ c κs. search rules)
+    (λ c. search rules)
     returns)

@@ -29,39 +29,12 @@ some_text c = c.before.before
 abbrev no_text : tie.After-prf → tie.Then-n-eq0
 no_text c = c.before.before
 
-prf-requires : tie.Need-prf-requires
-prf-requires c κs = search rules
-
-shape_of-out-then-n-eq0 : tie.Need-shape_of-out-then-n-eq0
-shape_of-out-then-n-eq0 c = search rules
-
 returns-then-n-eq0 : tie.Need-returns-then-n-eq0
 returns-then-n-eq0 c =
     let fill = c.before.before in
     let none = no_text fill in
     let s = none.before.before.before in
     seals_none (f s) s.args.delta (M s) (out s) fill.prf.new.out none.if-n-eq0.true fill.prf.ensures
-
-copy-requires : tie.Need-copy-requires
-copy-requires c κs = search rules
-
-slice_bounds-clear-count : tie.Need-slice_bounds-clear-count
-slice_bounds-clear-count c = search rules
-
-slice_bounds-clear-start : tie.Need-slice_bounds-clear-start
-slice_bounds-clear-start c = search rules
-
-slice_bounds-clear-end : tie.Need-slice_bounds-clear-end
-slice_bounds-clear-end c = search rules
-
-clear-requires : tie.Need-clear-requires
-clear-requires c κs = search rules
-
-cipher_in_place-requires : tie.Need-cipher_in_place-requires
-cipher_in_place-requires c κs = search rules
-
-shape_of-out : tie.Need-shape_of-out
-shape_of-out c = search rules
 
 returns : tie.Need-returns
 returns c =
@@ -76,14 +49,14 @@ pub encrypt_spec : {M : Type 1} → statement M
 encrypt_spec =
     tie.close
     (tie.spec
-    prf-requires
-    shape_of-out-then-n-eq0
+    (λ c κs. search rules)
+    (λ c. search rules)
     returns-then-n-eq0
-    copy-requires
-    slice_bounds-clear-count
-    slice_bounds-clear-start
-    slice_bounds-clear-end
-    clear-requires
-    cipher_in_place-requires
-    shape_of-out
+    (λ c κs. search rules)
+    (λ c. search rules)
+    (λ c. search rules)
+    (λ c. search rules)
+    (λ c κs. search rules)
+    (λ c κs. search rules)
+    (λ c. search rules)
     returns)

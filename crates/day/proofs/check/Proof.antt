@@ -11,13 +11,10 @@ use borrow.Author.Rules.{rules}
 use Rattle.day.proofs.check.Statement.{statement}
 use Rattle.day.proofs.check.Tie as tie
 
-abbrev start : tie.Else-file-gt65536 → tie.Start
-start c = c.before.before.before
-
 -- what is known of the file once its headers are counted
 module _ (c : tie.After-four-headers) where
   abbrev f : Bytes
-  f = (start c.before).args.file.now
+  f = c.args.file.now
 
   low : Below 256 f
   low = below_of 256 f (λ i p. omega (arith, c.shared_slice_known-1.given i))
@@ -39,21 +36,6 @@ module _ (c : tie.In-To) where
 returns-then-file-lt4 : tie.Need-returns-then-file-lt4
 returns-then-file-lt4 c = file_few c.args.file.now c.if-file-lt4.true
 
-returns-then-file-gt65536 : tie.Need-returns-then-file-gt65536
-returns-then-file-gt65536 c = file_long c.args.file.now c.if-file-gt65536.true
-
-four-headers-requires : tie.Need-four-headers-requires
-four-headers-requires c κs = search rules
-
-headers_end-requires : tie.Need-headers_end-requires
-headers_end-requires c κs = search rules
-
-enum_known-end : tie.Need-enum_known-end
-enum_known-end c = search rules
-
-enum_told-1 : tie.Need-enum_told-1
-enum_told-1 c = search rules
-
 returns-in_default : tie.Need-returns-in_default
 returns-in_default c =
     let w = c.before in
@@ -70,15 +52,6 @@ returns-then-file-end-lt4 c =
     let w = walked t in
     records_few (f h) (low h) (omega arith) (omega arith) (n h) h.four-headers.ensures.0 (end t) w.0 w.1.0 w.1.1 c.if-file-end-lt4.true
 
-four-records-requires : tie.Need-four-records-requires
-four-records-requires c κs = search rules
-
-overflow_add-first : tie.Need-overflow_add-first
-overflow_add-first c = search rules
-
-overflow_mul-records : tie.Need-overflow_mul-records
-overflow_mul-records c = search rules
-
 returns-then-file-records : tie.Need-returns-then-file-records
 returns-then-file-records c =
     let m = c.before in
@@ -86,9 +59,6 @@ returns-then-file-records c =
     let h = counted t in
     let w = walked t in
     too_many (f h) (low h) (omega arith) (omega arith) (n h) h.four-headers.ensures.0 (end t) w.0 w.1.0 w.1.1 m.if-file-end-lt4.false m.four-records.result m.four-records.ensures.0 c.if-file-records.true
-
-records_right-requires : tie.Need-records_right-requires
-records_right-requires c κs = search rules
 
 returns-then-records_right : tie.Need-returns-then-records_right
 returns-then-records_right c =
@@ -113,18 +83,18 @@ check_spec =
     tie.close
     (tie.spec
     returns-then-file-lt4
-    returns-then-file-gt65536
-    four-headers-requires
-    headers_end-requires
-    enum_known-end
-    enum_told-1
+    (λ c. file_long c.args.file.now (omega arith))
+    (λ c κs. search rules)
+    (λ c κs. search rules)
+    (λ c. search rules)
+    (λ c. search rules)
     returns-in_default
     overflow_sub-file
     returns-then-file-end-lt4
-    four-records-requires
-    overflow_add-first
-    overflow_mul-records
+    (λ c κs. search rules)
+    (λ c. search rules)
+    (λ c. search rules)
     returns-then-file-records
-    records_right-requires
+    (λ c κs. search rules)
     returns-then-records_right
     returns)

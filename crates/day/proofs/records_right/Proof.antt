@@ -48,25 +48,10 @@ module _ (c : tie.In-To invariant-loop-left decreases-loop-left) where
       subst (λ (x : Step). RecordStep x (start (looped read)).args.file.now (start (looped read)).args.headers (looped read).loop-left.at)
       c.in-To.is read.record_at.ensures
 
-overflow_mul-place : tie.Need-overflow_mul-place invariant-loop-left decreases-loop-left
-overflow_mul-place c = search rules
-
-overflow_sub-place : tie.Need-overflow_sub-place invariant-loop-left decreases-loop-left
-overflow_sub-place c = search rules
-
 loop-left-init : tie.Need-loop-left-init invariant-loop-left decreases-loop-left
 loop-left-init c =
     let a = c.args in
     (c.requires.0, omega arith, omega arith, begun a.file.now (low c) c.requires.1 a.records a.headers a.first c.requires.0)
-
-record_at-requires : tie.Need-record_at-requires invariant-loop-left decreases-loop-left
-record_at-requires c κs = search rules
-
-enum_known-e : tie.Need-enum_known-e invariant-loop-left decreases-loop-left
-enum_known-e c = search rules
-
-enum_told-1 : tie.Need-enum_told-1 invariant-loop-left decreases-loop-left
-enum_told-1 c = search rules
 
 returns-in_default : tie.Need-returns-in_default invariant-loop-left decreases-loop-left
 returns-in_default c =
@@ -77,42 +62,13 @@ returns-in_default c =
     let s : RecordStep Bad a.file.now a.headers l.at = rw c.in_default.is at r.record_at.ensures in
     sym (l.invariant.3 ∙ records_stop a.file.now (low at_loop.before) (start at_loop).requires.1 a.records a.headers l.left l.at l.place (omega arith) l.invariant.0 (omega arith) s)
 
-four-requires : tie.Need-four-requires invariant-loop-left decreases-loop-left
-four-requires c κs = search rules
-
-returns-then-four-at : tie.Need-returns-then-four-at invariant-loop-left decreases-loop-left
-returns-then-four-at c =
-    let told = c.before.before in
-    let at_loop = looped (read told) in
-    let l = at_loop.loop-left in
-    let a = (start at_loop).args in
-    sym (l.invariant.3 ∙ records_wrong a.file.now (low at_loop.before) (start at_loop).requires.1 a.records a.headers l.left l.at l.place (omega arith) l.invariant.0 (omega arith) (e told) (step told) (λ w. c.if-four-at.true (c.four.ensures.0 ∙ w)))
-
-overflow_add-place : tie.Need-overflow_add-place invariant-loop-left decreases-loop-left
-overflow_add-place c = search rules
-
-overflow_sub-left : tie.Need-overflow_sub-left invariant-loop-left decreases-loop-left
-overflow_sub-left c = search rules
-
-loop-left-smaller : tie.Need-loop-left-smaller invariant-loop-left decreases-loop-left
-loop-left-smaller c = search rules
-
 loop-left-preserved : tie.Need-loop-left-preserved invariant-loop-left decreases-loop-left
 loop-left-preserved c =
     let told = c.before.before in
     let at_loop = looped (read told) in
     let l = at_loop.loop-left in
     let a = (start at_loop).args in
-    ((step told).1, omega arith, omega arith, l.invariant.3 ∙ records_turn a.file.now (low at_loop.before) (start at_loop).requires.1 a.records a.headers l.left l.at l.place (omega arith) l.invariant.0 (omega arith) (e told) (step told) (sym c.four.ensures.0 ∙ c.if-four-at.false))
-
-overflow_sub-file : tie.Need-overflow_sub-file invariant-loop-left decreases-loop-left
-overflow_sub-file c = search rules
-
-overflow_mul-records : tie.Need-overflow_mul-records invariant-loop-left decreases-loop-left
-overflow_mul-records c = search rules
-
-overflow_add-records : tie.Need-overflow_add-records invariant-loop-left decreases-loop-left
-overflow_add-records c = search rules
+    ((step told).1, omega arith, omega arith, l.invariant.3 ∙ records_turn a.file.now (low at_loop.before) (start at_loop).requires.1 a.records a.headers l.left l.at l.place (omega arith) l.invariant.0 (omega arith) (e told) (step told) (sym c.four.ensures.0 ∙ (omega arith)))
 
 returns-then-file-at : tie.Need-returns-then-file-at invariant-loop-left decreases-loop-left
 returns-then-file-at c =
@@ -120,9 +76,6 @@ returns-then-file-at c =
     let l = at_loop.loop-left in
     let a = (start at_loop).args in
     sym (l.invariant.3 ∙ count_wrong a.file.now (low at_loop.before) (start at_loop).requires.1 a.records a.headers l.left l.at l.place c.loop-left-test.false l.invariant.0 (omega arith) c.if-file-at.true)
-
-four-requires-2 : tie.Need-four-requires-2 invariant-loop-left decreases-loop-left
-four-requires-2 c κs = search rules
 
 returns : tie.Need-returns invariant-loop-left decreases-loop-left
 returns c =
@@ -138,22 +91,22 @@ records_right_spec =
     (tie.spec
     invariant-loop-left
     decreases-loop-left
-    overflow_mul-place
-    overflow_sub-place
+    (λ c. search rules)
+    (λ c. search rules)
     loop-left-init
-    record_at-requires
-    enum_known-e
-    enum_told-1
+    (λ c κs. search rules)
+    (λ c. search rules)
+    (λ c. search rules)
     returns-in_default
-    four-requires
-    returns-then-four-at
-    overflow_add-place
-    overflow_sub-left
-    loop-left-smaller
+    (λ c κs. search rules)
+    (λ c. let told = c.before.before in let at_loop = looped (read told) in let l = at_loop.loop-left in let a = (start at_loop).args in sym (l.invariant.3 ∙ records_wrong a.file.now (low at_loop.before) (start at_loop).requires.1 a.records a.headers l.left l.at l.place (omega arith) l.invariant.0 (omega arith) (e told) (step told) (λ w. let same = c.four.ensures.0 ∙ w in omega arith)))
+    (λ c. search rules)
+    (λ c. search rules)
+    (λ c. search rules)
     loop-left-preserved
-    overflow_sub-file
-    overflow_mul-records
-    overflow_add-records
+    (λ c. search rules)
+    (λ c. search rules)
+    (λ c. search rules)
     returns-then-file-at
-    four-requires-2
+    (λ c κs. search rules)
     returns)

@@ -47,23 +47,8 @@ returns-then-buffer-size c =
     let a = c.args in
     past_buffer a.buffer.now a.size a.number a.header.now a.stretch a.sealed.now c.if-buffer-size.true
 
-slice_bounds-check-end : tie.Need-slice_bounds-check-end
-slice_bounds-check-end c = search rules
-
 slice_bounds-check-end-2 : tie.Need-slice_bounds-check-end-2
 slice_bounds-check-end-2 c = let e = c in sym (length-take-le (start e).args.size (start e).args.buffer.now e.if-buffer-size.false)
-
-check-requires : tie.Need-check-requires
-check-requires c κs = search rules
-
-enum_known-headers : tie.Need-enum_known-headers
-enum_known-headers c = search rules
-
-enum_told-1 : tie.Need-enum_told-1
-enum_told-1 c = search rules
-
-shape_of-buffer-in_default : tie.Need-shape_of-buffer-in_default
-shape_of-buffer-in_default c = search rules
 
 returns-in_default : tie.Need-returns-in_default
 returns-in_default c =
@@ -83,32 +68,17 @@ module _ (g : tie.After-grown_size-n) where
   fit : true ≡ append_fits q.number q.header q.stretch q.headers
   fit = sym g.if-fits.true ∙ g.before.before.fits.ensures
 
-fits-requires : tie.Need-fits-requires
-fits-requires c κs = search rules
-
 grown_size-n-requires : tie.Need-grown_size-n-requires
 grown_size-n-requires c κs =
     let t = c.before.before in
     size_short (asked t)
-
-shape_of-buffer-then-n-gt65536 : tie.Need-shape_of-buffer-then-n-gt65536
-shape_of-buffer-then-n-gt65536 c = search rules
-
-returns-then-n-gt65536 : tie.Need-returns-then-n-gt65536
-returns-then-n-gt65536 c =
-    let g = c.before in
-    let t = told g in
-    too_long_lem (asked t) (fit g) g.grown_size-n.result g.grown_size-n.ensures c.if-n-gt65536.true
-
-shape_of-buffer-then-buffer-n : tie.Need-shape_of-buffer-then-buffer-n
-shape_of-buffer-then-buffer-n c = search rules
 
 returns-then-buffer-n : tie.Need-returns-then-buffer-n
 returns-then-buffer-n c =
     let e = c.before in
     let g = e.before in
     let t = told g in
-    no_room (asked t) (fit g) g.grown_size-n.result g.grown_size-n.ensures e.if-n-gt65536.false c.if-buffer-n.true
+    no_room (asked t) (fit g) g.grown_size-n.result g.grown_size-n.ensures (omega arith) c.if-buffer-n.true
 
 put_grown-requires : tie.Need-put_grown-requires
 put_grown-requires c κs =
@@ -116,10 +86,7 @@ put_grown-requires c κs =
     let e = r.before in
     let g = e.before in
     let t = told g in
-    ready (asked t) (fit g) g.grown_size-n.result g.grown_size-n.ensures e.if-n-gt65536.false r.if-buffer-n.false
-
-shape_of-buffer-then-fits : tie.Need-shape_of-buffer-then-fits
-shape_of-buffer-then-fits c = search rules
+    ready (asked t) (fit g) g.grown_size-n.result g.grown_size-n.ensures (omega arith) r.if-buffer-n.false
 
 returns-then-fits : tie.Need-returns-then-fits
 returns-then-fits c =
@@ -128,10 +95,7 @@ returns-then-fits c =
     let e = r.before in
     let g = e.before in
     let t = told g in
-    appended (asked t) (fit g) g.grown_size-n.result g.grown_size-n.ensures e.if-n-gt65536.false r.if-buffer-n.false p.put_grown.new.out p.put_grown.ensures
-
-shape_of-buffer : tie.Need-shape_of-buffer
-shape_of-buffer c = search rules
+    appended (asked t) (fit g) g.grown_size-n.result g.grown_size-n.ensures (omega arith) r.if-buffer-n.false p.put_grown.new.out p.put_grown.ensures
 
 returns : tie.Need-returns
 returns c =
@@ -143,21 +107,21 @@ append_spec =
     tie.close
     (tie.spec
     returns-then-buffer-size
-    slice_bounds-check-end
+    (λ c. search rules)
     slice_bounds-check-end-2
-    check-requires
-    enum_known-headers
-    enum_told-1
-    shape_of-buffer-in_default
+    (λ c κs. search rules)
+    (λ c. search rules)
+    (λ c. search rules)
+    (λ c. search rules)
     returns-in_default
-    fits-requires
+    (λ c κs. search rules)
     grown_size-n-requires
-    shape_of-buffer-then-n-gt65536
-    returns-then-n-gt65536
-    shape_of-buffer-then-buffer-n
+    (λ c. search rules)
+    (λ c. let g = c.before in let t = told g in too_long_lem (asked t) (fit g) g.grown_size-n.result g.grown_size-n.ensures (omega arith))
+    (λ c. search rules)
     returns-then-buffer-n
     put_grown-requires
-    shape_of-buffer-then-fits
+    (λ c. search rules)
     returns-then-fits
-    shape_of-buffer
+    (λ c. search rules)
     returns)

@@ -17,15 +17,6 @@ returns-then-sealed-gt65536 c =
     let a = c.args in
     capped_over (a.size + taken a.number a.header.now a.headers + 11 + length a.sealed.now) (omega (arith, c.if-sealed-gt65536.true))
 
-overflow_add-size : tie.Need-overflow_add-size
-overflow_add-size c = search rules
-
-overflow_add-size-then-number-headers : tie.Need-overflow_add-size-then-number-headers
-overflow_add-size-then-number-headers c = search rules
-
-cap-requires : tie.Need-cap-requires
-cap-requires c κs = search rules
-
 returns-then-number-headers : tie.Need-returns-then-number-headers
 returns-then-number-headers c =
     let t = c.before in
@@ -41,21 +32,6 @@ returns-then-header-gt65536 c =
     capped_over (a.size + taken a.number a.header.now a.headers + 11 + length a.sealed.now)
     (omega (arith, c.if-header-gt65536.true, taken_next a.number a.header.now 0 a.headers e.if-number-headers.false))
 
-overflow_add-size-2 : tie.Need-overflow_add-size-2
-overflow_add-size-2 c = search rules
-
-overflow_add-size-3 : tie.Need-overflow_add-size-3
-overflow_add-size-3 c = search rules
-
-overflow_add-size-4 : tie.Need-overflow_add-size-4
-overflow_add-size-4 c = search rules
-
-overflow_add-size-5 : tie.Need-overflow_add-size-5
-overflow_add-size-5 c = search rules
-
-cap-requires-2 : tie.Need-cap-requires-2
-cap-requires-2 c κs = search rules
-
 returns : tie.Need-returns
 returns c =
     let e = c.before.before in
@@ -69,14 +45,14 @@ grown_size_spec =
     tie.close
     (tie.spec
     returns-then-sealed-gt65536
-    overflow_add-size
-    overflow_add-size-then-number-headers
-    cap-requires
+    (λ c. search rules)
+    (λ c. search rules)
+    (λ c κs. search rules)
     returns-then-number-headers
     returns-then-header-gt65536
-    overflow_add-size-2
-    overflow_add-size-3
-    overflow_add-size-4
-    overflow_add-size-5
-    cap-requires-2
+    (λ c. search rules)
+    (λ c. search rules)
+    (λ c. search rules)
+    (λ c. search rules)
+    (λ c κs. search rules)
     returns)

@@ -41,23 +41,8 @@ returns-then-buffer-size c =
     let a = c.args in
     past_buffer a.buffer.now a.size a.dropped.now c.if-buffer-size.true
 
-slice_bounds-check-end : tie.Need-slice_bounds-check-end
-slice_bounds-check-end c = search rules
-
 slice_bounds-check-end-2 : tie.Need-slice_bounds-check-end-2
 slice_bounds-check-end-2 c = let e = c in sym (length-take-le (start e).args.size (start e).args.buffer.now e.if-buffer-size.false)
-
-check-requires : tie.Need-check-requires
-check-requires c κs = search rules
-
-enum_known-headers : tie.Need-enum_known-headers
-enum_known-headers c = search rules
-
-enum_told-1 : tie.Need-enum_told-1
-enum_told-1 c = search rules
-
-shape_of-buffer-in_default : tie.Need-shape_of-buffer-in_default
-shape_of-buffer-in_default c = search rules
 
 returns-in_default : tie.Need-returns-in_default
 returns-in_default c =
@@ -66,18 +51,12 @@ returns-in_default c =
     let a = (start e).args in
     unread a.buffer.now a.size a.dropped.now e.if-buffer-size.false (rw c.in_default.is at h.check.ensures)
 
-rising-requires : tie.Need-rising-requires
-rising-requires c κs = search rules
-
 put_cleared-n-requires : tie.Need-put_cleared-n-requires
 put_cleared-n-requires c κs =
     let r = c.before.before in
     let t = r.before in
     let a = (start (inside t)).args in
     clearable (B t) a.size a.dropped.now (inside t).if-buffer-size.false (headers t) (records t) (first t) (found t) (sym c.if-rising.true ∙ r.rising.ensures)
-
-shape_of-buffer-then-rising : tie.Need-shape_of-buffer-then-rising
-shape_of-buffer-then-rising c = search rules
 
 returns-then-rising : tie.Need-returns-then-rising
 returns-then-rising c =
@@ -86,9 +65,6 @@ returns-then-rising c =
     let t = r.before in
     let a = (start (inside t)).args in
     cleared_out (B t) a.size a.dropped.now (inside t).if-buffer-size.false (headers t) (records t) (first t) (found t) (sym p.if-rising.true ∙ r.rising.ensures) p.put_cleared-n.result p.put_cleared-n.new.out p.put_cleared-n.ensures.0 p.put_cleared-n.ensures.1
-
-shape_of-buffer : tie.Need-shape_of-buffer
-shape_of-buffer c = search rules
 
 returns : tie.Need-returns
 returns c =
@@ -101,16 +77,16 @@ clear_spec =
     tie.close
     (tie.spec
     returns-then-buffer-size
-    slice_bounds-check-end
+    (λ c. search rules)
     slice_bounds-check-end-2
-    check-requires
-    enum_known-headers
-    enum_told-1
-    shape_of-buffer-in_default
+    (λ c κs. search rules)
+    (λ c. search rules)
+    (λ c. search rules)
+    (λ c. search rules)
     returns-in_default
-    rising-requires
+    (λ c κs. search rules)
     put_cleared-n-requires
-    shape_of-buffer-then-rising
+    (λ c. search rules)
     returns-then-rising
-    shape_of-buffer
+    (λ c. search rules)
     returns)

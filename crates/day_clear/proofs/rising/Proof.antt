@@ -21,12 +21,6 @@ turn c = c.before
 loop-i-init : tie.Need-loop-i-init invariant-loop-i decreases-loop-i
 loop-i-init c = (omega arith, refl)
 
-offset_bounds-dropped-i : tie.Need-offset_bounds-dropped-i invariant-loop-i decreases-loop-i
-offset_bounds-dropped-i c = search rules
-
-bounds-dropped-i : tie.Need-bounds-dropped-i invariant-loop-i decreases-loop-i
-bounds-dropped-i c = search rules
-
 returns-then-n-low : tie.Need-returns-then-n-low invariant-loop-i decreases-loop-i
 returns-then-n-low c =
     let t = turn c.before in
@@ -41,15 +35,6 @@ returns-then-records-n c =
     let l = t.loop-i in
     let a = t.args in
     rising_absent a.dropped.now a.records l.i l.low t.loop-i-test.true e.if-n-low.false c.if-records-n.true ∙ sym l.invariant.1
-
-overflow_add-low : tie.Need-overflow_add-low invariant-loop-i decreases-loop-i
-overflow_add-low c = search rules
-
-overflow_add-i : tie.Need-overflow_add-i invariant-loop-i decreases-loop-i
-overflow_add-i c = search rules
-
-loop-i-smaller : tie.Need-loop-i-smaller invariant-loop-i decreases-loop-i
-loop-i-smaller c = search rules
 
 loop-i-preserved : tie.Need-loop-i-preserved invariant-loop-i decreases-loop-i
 loop-i-preserved c =
@@ -72,12 +57,12 @@ rising_spec =
     invariant-loop-i
     decreases-loop-i
     loop-i-init
-    offset_bounds-dropped-i
-    bounds-dropped-i
+    (λ c. search rules)
+    (λ c. search rules)
     returns-then-n-low
     returns-then-records-n
-    overflow_add-low
-    overflow_add-i
-    loop-i-smaller
+    (λ c. search rules)
+    (λ c. search rules)
+    (λ c. search rules)
     loop-i-preserved
     returns)

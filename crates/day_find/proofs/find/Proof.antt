@@ -9,10 +9,7 @@ use Rattle.day_find.proofs.find.Tie as tie
 find_from-requires : tie.Need-find_from-requires
 find_from-requires c κs = let s = c.before in (s.requires.0, s.requires.1, first_header (read_day s.args.file.now), omega arith)
 
-returns : tie.Need-returns
-returns c = search rules
-
 pub find_spec : {M : Type 1} → statement M
 find_spec = tie.close (tie.spec
     find_from-requires
-    returns)
+    (λ c. search rules))

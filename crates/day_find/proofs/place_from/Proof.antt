@@ -47,12 +47,6 @@ two-requires c κs = omega (arith, (step c).0)
 overflow_add-place-in-loop-i : tie.Need-overflow_add-place-in-loop-i invariant-loop-i decreases-loop-i
 overflow_add-place-in-loop-i c = omega (arith, (step c.before).0, c.two.ensures.0)
 
-overflow_add-i : tie.Need-overflow_add-i invariant-loop-i decreases-loop-i
-overflow_add-i c = search rules
-
-loop-i-smaller : tie.Need-loop-i-smaller invariant-loop-i decreases-loop-i
-loop-i-smaller c = search rules
-
 loop-i-preserved : tie.Need-loop-i-preserved invariant-loop-i decreases-loop-i
 loop-i-preserved c = (omega arith, ap (λ (n : ℕ). at c.before + 2 + n) c.two.ensures.0 ∙ (step c.before).1)
 
@@ -74,7 +68,7 @@ place_from_spec =
     overflow_add-place
     two-requires
     overflow_add-place-in-loop-i
-    overflow_add-i
-    loop-i-smaller
+    (λ c. search rules)
+    (λ c. search rules)
     loop-i-preserved
     returns)

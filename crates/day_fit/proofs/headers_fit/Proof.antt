@@ -60,15 +60,6 @@ ends a lengths headers i p q = go (eqb a (length headers)) refl
 loop-i-init : tie.Need-loop-i-init invariant-loop-i decreases-loop-i
 loop-i-init c = (omega arith, omega arith, refl)
 
-offset_bounds-lengths-i : tie.Need-offset_bounds-lengths-i invariant-loop-i decreases-loop-i
-offset_bounds-lengths-i c = search rules
-
-bounds-lengths-i : tie.Need-bounds-lengths-i invariant-loop-i decreases-loop-i
-bounds-lengths-i c = search rules
-
-overflow_sub-headers : tie.Need-overflow_sub-headers invariant-loop-i decreases-loop-i
-overflow_sub-headers c = search rules
-
 returns-then-headers-at : tie.Need-returns-then-headers-at invariant-loop-i decreases-loop-i
 returns-then-headers-at c =
     let at_loop = c.before.before.before in
@@ -76,39 +67,12 @@ returns-then-headers-at c =
     let a = (start at_loop).args in
     sym (l.invariant.2 ∙ ap present (header_past a.lengths.now a.headers.now l.i l.at (omega arith) c.if-headers-at.true))
 
-overflow_add-end : tie.Need-overflow_add-end invariant-loop-i decreases-loop-i
-overflow_add-end c = search rules
-
-slice_bounds-read-count : tie.Need-slice_bounds-read-count invariant-loop-i decreases-loop-i
-slice_bounds-read-count c = search rules
-
-slice_bounds-read-start : tie.Need-slice_bounds-read-start invariant-loop-i decreases-loop-i
-slice_bounds-read-start c = search rules
-
-slice_bounds-read-end : tie.Need-slice_bounds-read-end invariant-loop-i decreases-loop-i
-slice_bounds-read-end c = search rules
-
-read-requires : tie.Need-read-requires invariant-loop-i decreases-loop-i
-read-requires c κs = search rules
-
-enum_told-1 : tie.Need-enum_told-1 invariant-loop-i decreases-loop-i
-enum_told-1 c = search rules
-
-enum_told-in_default : tie.Need-enum_told-in_default invariant-loop-i decreases-loop-i
-enum_told-in_default c = search rules
-
 returns-in_default : tie.Need-returns-in_default invariant-loop-i decreases-loop-i
 returns-in_default c =
     let r = c.before in
     let e = r.before.before in
     let unfit = ap header_fits (sym (part_is e)) ∙ bad_fits (take (at e + get_or (lengths e) (i e) 0 - at e) (drop (at e) (headers e))) _ (sym c.in_default.is ∙ r.read.ensures) in
     sym ((looped e).loop-i.invariant.2 ∙ ap present (header_unfit (lengths e) (headers e) (i e) (at e) (omega arith) unfit))
-
-overflow_add-i : tie.Need-overflow_add-i invariant-loop-i decreases-loop-i
-overflow_add-i c = search rules
-
-loop-i-smaller : tie.Need-loop-i-smaller invariant-loop-i decreases-loop-i
-loop-i-smaller c = search rules
 
 loop-i-preserved : tie.Need-loop-i-preserved invariant-loop-i decreases-loop-i
 loop-i-preserved c =
@@ -135,19 +99,19 @@ headers_fit_spec =
     invariant-loop-i
     decreases-loop-i
     loop-i-init
-    offset_bounds-lengths-i
-    bounds-lengths-i
-    overflow_sub-headers
+    (λ c. search rules)
+    (λ c. search rules)
+    (λ c. search rules)
     returns-then-headers-at
-    overflow_add-end
-    slice_bounds-read-count
-    slice_bounds-read-start
-    slice_bounds-read-end
-    read-requires
-    enum_told-1
-    enum_told-in_default
+    (λ c. search rules)
+    (λ c. search rules)
+    (λ c. search rules)
+    (λ c. search rules)
+    (λ c κs. search rules)
+    (λ c. search rules)
+    (λ c. search rules)
     returns-in_default
-    overflow_add-i
-    loop-i-smaller
+    (λ c. search rules)
+    (λ c. search rules)
     loop-i-preserved
     returns)

@@ -71,33 +71,11 @@ loop-i-init c =
     let a = c.args in
     (omega arith, omega arith, all_same a.headers a.numbers.now a.stretches.now a.sizes.now a.sealed.now c.if-numbers-sizes.false c.if-stretches-sizes.false)
 
-offset_bounds-sizes-i : tie.Need-offset_bounds-sizes-i invariant-loop-i decreases-loop-i
-offset_bounds-sizes-i c = search rules
-
-bounds-sizes-i : tie.Need-bounds-sizes-i invariant-loop-i decreases-loop-i
-bounds-sizes-i c = search rules
-
-overflow_sub-sealed : tie.Need-overflow_sub-sealed invariant-loop-i decreases-loop-i
-overflow_sub-sealed c = search rules
-
 returns-then-sealed-at : tie.Need-returns-then-sealed-at invariant-loop-i decreases-loop-i
 returns-then-sealed-at c =
     let l = (looped c.before).loop-i in
     let a = (start (looped c.before)).args in
     sym (l.invariant.2 ∙ ap present (record_past a.headers a.numbers.now a.stretches.now a.sizes.now a.sealed.now l.i l.at (omega arith) c.if-sealed-at.true))
-
-offset_bounds-numbers-i : tie.Need-offset_bounds-numbers-i invariant-loop-i decreases-loop-i
-offset_bounds-numbers-i c = search rules
-
-bounds-numbers-i : tie.Need-bounds-numbers-i invariant-loop-i decreases-loop-i
-bounds-numbers-i c = search rules
-
-returns-then-header-gt65535 : tie.Need-returns-then-header-gt65535 invariant-loop-i decreases-loop-i
-returns-then-header-gt65535 c =
-    let at_loop = looped c.before.before.before in
-    let l = at_loop.loop-i in
-    let a = (start at_loop).args in
-    sym (l.invariant.2 ∙ ap present (record_numbered a.headers a.numbers.now a.stretches.now a.sizes.now a.sealed.now l.i l.at (omega arith) c.if-header-gt65535.true))
 
 returns-then-headers-header : tie.Need-returns-then-headers-header invariant-loop-i decreases-loop-i
 returns-then-headers-header c =
@@ -105,28 +83,6 @@ returns-then-headers-header c =
     let l = at_loop.loop-i in
     let a = (start at_loop).args in
     sym (l.invariant.2 ∙ ap present (record_unnamed a.headers a.numbers.now a.stretches.now a.sizes.now a.sealed.now l.i l.at (omega arith) c.if-headers-header.true))
-
-offset_bounds-stretches-i : tie.Need-offset_bounds-stretches-i invariant-loop-i decreases-loop-i
-offset_bounds-stretches-i c = search rules
-
-bounds-stretches-i : tie.Need-bounds-stretches-i invariant-loop-i decreases-loop-i
-bounds-stretches-i c = search rules
-
-returns-then-stretches-i-gt64 : tie.Need-returns-then-stretches-i-gt64 invariant-loop-i decreases-loop-i
-returns-then-stretches-i-gt64 c =
-    let at_loop = looped c.before.before.before.before.before.before in
-    let l = at_loop.loop-i in
-    let a = (start at_loop).args in
-    sym (l.invariant.2 ∙ ap present (record_stretched a.headers a.numbers.now a.stretches.now a.sizes.now a.sealed.now l.i l.at (omega arith) c.if-stretches-i-gt64.true))
-
-overflow_add-at : tie.Need-overflow_add-at invariant-loop-i decreases-loop-i
-overflow_add-at c = search rules
-
-overflow_add-i : tie.Need-overflow_add-i invariant-loop-i decreases-loop-i
-overflow_add-i c = search rules
-
-loop-i-smaller : tie.Need-loop-i-smaller invariant-loop-i decreases-loop-i
-loop-i-smaller c = search rules
 
 loop-i-preserved : tie.Need-loop-i-preserved invariant-loop-i decreases-loop-i
 loop-i-preserved c =
@@ -141,7 +97,7 @@ loop-i-preserved c =
       l.invariant.2
           ∙ ap present
           (record_turn a.headers a.numbers.now a.stretches.now a.sizes.now a.sealed.now l.i l.at (omega arith) (omega arith)
-          fourth.if-header-gt65535.false fifth.if-headers-header.false c.if-stretches-i-gt64.false)
+          (omega arith) fifth.if-headers-header.false (omega arith))
           ∙ record_front (record_at a.headers a.numbers.now a.stretches.now a.sizes.now a.sealed.now l.i l.at) (records_from a.headers a.numbers.now a.stretches.now a.sizes.now a.sealed.now (l.i + 1) (l.at + n)),
     )
 
@@ -160,19 +116,19 @@ records_fit_spec =
     returns-then-numbers-sizes
     returns-then-stretches-sizes
     loop-i-init
-    offset_bounds-sizes-i
-    bounds-sizes-i
-    overflow_sub-sealed
+    (λ c. search rules)
+    (λ c. search rules)
+    (λ c. search rules)
     returns-then-sealed-at
-    offset_bounds-numbers-i
-    bounds-numbers-i
-    returns-then-header-gt65535
+    (λ c. search rules)
+    (λ c. search rules)
+    (λ c. let at_loop = looped c.before.before.before in let l = at_loop.loop-i in let a = (start at_loop).args in sym (l.invariant.2 ∙ ap present (record_numbered a.headers a.numbers.now a.stretches.now a.sizes.now a.sealed.now l.i l.at (omega arith) (omega arith))))
     returns-then-headers-header
-    offset_bounds-stretches-i
-    bounds-stretches-i
-    returns-then-stretches-i-gt64
-    overflow_add-at
-    overflow_add-i
-    loop-i-smaller
+    (λ c. search rules)
+    (λ c. search rules)
+    (λ c. let at_loop = looped c.before.before.before.before.before.before in let l = at_loop.loop-i in let a = (start at_loop).args in sym (l.invariant.2 ∙ ap present (record_stretched a.headers a.numbers.now a.stretches.now a.sizes.now a.sealed.now l.i l.at (omega arith) (omega arith))))
+    (λ c. search rules)
+    (λ c. search rules)
+    (λ c. search rules)
     loop-i-preserved
     returns)

@@ -106,9 +106,6 @@ put_last-requires c κs =
       small k,
     )
 
-shape_of-out-then-number-headers : tie.Need-shape_of-out-then-number-headers
-shape_of-out-then-number-headers c = search rules
-
 returns-then-number-headers : tie.Need-returns-then-number-headers
 returns-then-number-headers c =
     let p = c.before.before in
@@ -145,9 +142,6 @@ module _ (c : tie.After-put_four) where
     kept = c.put_four.auto.out ∙ header_put.put.auto.out ∙ move_made.move_right.auto.out;
   }
 
-overflow_add-more : tie.Need-overflow_add-more
-overflow_add-more c = search rules
-
 overflow_add-end : tie.Need-overflow_add-end
 overflow_add-end c = let e = c.before in omega (arith, room e, heads (lent e), whole (lent e))
 
@@ -179,9 +173,6 @@ put_four-requires c κs =
 overflow_add-first : tie.Need-overflow_add-first
 overflow_add-first c = let b = brought c.before.before.before in omega (arith, room b, whole (lent b))
 
-overflow_add-last : tie.Need-overflow_add-last
-overflow_add-last c = search rules
-
 put_last-requires-2 : tie.Need-put_last-requires-2
 put_last-requires-2 c κs =
     let n = c.before.before.before in
@@ -193,9 +184,6 @@ put_last-requires-2 c κs =
       next_room (l k) b.if-number-headers.false (put n),
       small k,
     )
-
-shape_of-out : tie.Need-shape_of-out
-shape_of-out c = search rules
 
 returns : tie.Need-returns
 returns c =
@@ -215,9 +203,9 @@ put_grown_spec =
     overflow_mul-last
     overflow_sub-last-2
     put_last-requires
-    shape_of-out-then-number-headers
+    (λ c. search rules)
     returns-then-number-headers
-    overflow_add-more
+    (λ c. search rules)
     overflow_add-end
     overflow_sub-last-3
     move_right-requires
@@ -225,7 +213,7 @@ put_grown_spec =
     overflow_add-headers
     put_four-requires
     overflow_add-first
-    overflow_add-last
+    (λ c. search rules)
     put_last-requires-2
-    shape_of-out
+    (λ c. search rules)
     returns)

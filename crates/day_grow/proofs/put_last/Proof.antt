@@ -62,38 +62,17 @@ module _ (c : tie.After-put_record) where
       ∙ rows_end start.requires.0 new (omega (arith, f_long, record_long new, start.requires.2))
       ∙ omega (arith, f_long, record_long new)
 
-put_record-requires : tie.Need-put_record-requires
-put_record-requires c κs = search rules
-
-overflow_add-records : tie.Need-overflow_add-records
-overflow_add-records c = search rules
-
-overflow_add-at : tie.Need-overflow_add-at
-overflow_add-at c = search rules
-
-overflow_add-at-2 : tie.Need-overflow_add-at-2
-overflow_add-at-2 c = search rules
-
 put_index-requires : tie.Need-put_index-requires
 put_index-requires c κs =
     let r = c.before.before.before in
     let s = start r in
     (ends r, omega (arith, s.requires.3, r.put_record.auto.out), omega (arith, s.requires.2))
 
-overflow_sub-first : tie.Need-overflow_sub-first
-overflow_sub-first c = search rules
-
-overflow_add-records-2 : tie.Need-overflow_add-records-2
-overflow_add-records-2 c = search rules
-
 put_four-requires : tie.Need-put_four-requires
 put_four-requires c κs =
     let x = c.before.before.before in
     let r = x.before.before.before.before in
     omega (arith, first_inside r, (start r).requires.1, (start r).requires.3, x.put_index.auto.out, r.put_record.auto.out)
-
-shape_of-out : tie.Need-shape_of-out
-shape_of-out c = search rules
 
 returns : tie.Need-returns
 returns c =
@@ -119,13 +98,13 @@ pub put_last_spec : {M : Type 1} → statement M
 put_last_spec =
     tie.close
     (tie.spec
-    put_record-requires
-    overflow_add-records
-    overflow_add-at
-    overflow_add-at-2
+    (λ c κs. search rules)
+    (λ c. search rules)
+    (λ c. search rules)
+    (λ c. search rules)
     put_index-requires
-    overflow_sub-first
-    overflow_add-records-2
+    (λ c. search rules)
+    (λ c. search rules)
     put_four-requires
-    shape_of-out
+    (λ c. search rules)
     returns)

@@ -48,15 +48,6 @@ module _ (c : tie.In-Day) where
 abbrev headed : tie.After-list_records-arg-1 → tie.After-list_headers
 headed c = c.before.before.before
 
-check-requires : tie.Need-check-requires
-check-requires c κs = search rules
-
-enum_known-headers : tie.Need-enum_known-headers
-enum_known-headers c = search rules
-
-enum_told-1 : tie.Need-enum_told-1
-enum_told-1 c = search rules
-
 returns-in_default : tie.Need-returns-in_default
 returns-in_default c =
     let h = c.before in
@@ -79,17 +70,11 @@ returns-then-places-headers c =
 list_headers-requires : tie.Need-list_headers-requires
 list_headers-requires c κs = ((counts c.before.before).headers_are, omega (arith, c.if-places-headers.false))
 
-overflow_mul-headers-2 : tie.Need-overflow_mul-headers-2
-overflow_mul-headers-2 c = search rules
-
 list_records-requires : tie.Need-list_records-requires
 list_records-requires c κs =
     let h = headed c in
     let e = h.before.before in
     ((counts e.before).records_are, (counts e.before).first_is, omega (arith, e.if-places-headers.false, h.list_headers.auto.places))
-
-shape_of-places : tie.Need-shape_of-places
-shape_of-places c = search rules
 
 returns : tie.Need-returns
 returns c =
@@ -103,16 +88,16 @@ pub list_spec : {M : Type 1} → statement M
 list_spec =
     tie.close
     (tie.spec
-    check-requires
-    enum_known-headers
-    enum_told-1
+    (λ c κs. search rules)
+    (λ c. search rules)
+    (λ c. search rules)
     returns-in_default
     overflow_mul-headers
     overflow_mul-records
     overflow_add-headers
     returns-then-places-headers
     list_headers-requires
-    overflow_mul-headers-2
+    (λ c. search rules)
     list_records-requires
-    shape_of-places
+    (λ c. search rules)
     returns)

@@ -67,12 +67,6 @@ overflow_mul-i c = omega (arith, c.loop-i.invariant.2, (start c.before.before.be
 put_two-requires : tie.Need-put_two-requires invariant-loop-i decreases-loop-i
 put_two-requires c κs = omega (arith, c.loop-i.invariant.2, (start c.before.before.before).requires.1)
 
-overflow_add-i : tie.Need-overflow_add-i invariant-loop-i decreases-loop-i
-overflow_add-i c = search rules
-
-loop-i-smaller : tie.Need-loop-i-smaller invariant-loop-i decreases-loop-i
-loop-i-smaller c = search rules
-
 loop-i-preserved : tie.Need-loop-i-preserved invariant-loop-i decreases-loop-i
 loop-i-preserved c =
     let t = read c in
@@ -116,8 +110,8 @@ list_headers_spec =
     overflow_add-end
     overflow_mul-i
     put_two-requires
-    overflow_add-i
-    loop-i-smaller
+    (λ c. search rules)
+    (λ c. search rules)
     loop-i-preserved
     shape_of-places
     returns)

@@ -75,12 +75,6 @@ overflow_add-place-in-loop-i c = omega (arith, space (read c.before).before)
 put_two-requires-in-loop-i : tie.Need-put_two-requires-in-loop-i invariant-loop-i decreases-loop-i
 put_two-requires-in-loop-i c κs = omega (arith, space (read c.before).before, c.put_two.auto.places)
 
-overflow_add-i : tie.Need-overflow_add-i invariant-loop-i decreases-loop-i
-overflow_add-i c = search rules
-
-loop-i-smaller : tie.Need-loop-i-smaller invariant-loop-i decreases-loop-i
-loop-i-smaller c = search rules
-
 loop-i-preserved : tie.Need-loop-i-preserved invariant-loop-i decreases-loop-i
 loop-i-preserved c =
     let second = c.before.before in
@@ -124,8 +118,8 @@ list_records_spec =
     put_two-requires
     overflow_add-place-in-loop-i
     put_two-requires-in-loop-i
-    overflow_add-i
-    loop-i-smaller
+    (λ c. search rules)
+    (λ c. search rules)
     loop-i-preserved
     shape_of-places
     returns)

@@ -33,37 +33,25 @@ module _ (c : tie.After-entry_of-e) where
   is : get_or start.args.marks.now i 0 ≡ length_place (read_day f) (64 * i)
   is = ap (λ (l : List ℕ). get_or l i 0) start.requires.2 ∙ mark_at (read_day f) i there
 
-entry_of-e-requires : tie.Need-entry_of-e-requires
-entry_of-e-requires c κs = search rules
-
-offset_bounds-marks-i : tie.Need-offset_bounds-marks-i
-offset_bounds-marks-i c = search rules
-
 bounds-marks-i : tie.Need-bounds-marks-i
 bounds-marks-i c = there c.before.before
 
 overflow_cast-at : tie.Need-overflow_cast-at
 overflow_cast-at c = let e = c.before.before.before in omega (arith, is e, places_short (f e) (low e) (64 * i e))
 
-overflow_mul-i : tie.Need-overflow_mul-i
-overflow_mul-i c = search rules
-
 find_from-requires : tie.Need-find_from-requires
 find_from-requires c κs =
     let e = c.before.before.before in
     ((start e).requires.0, (start e).requires.1, is e, omega (arith, ap (λ (x : Entry). x.header) e.entry_of-e.ensures.0))
 
-returns : tie.Need-returns
-returns c = search rules
-
 pub find_spec : {M : Type 1} → statement M
 find_spec =
     tie.close
     (tie.spec
-    entry_of-e-requires
-    offset_bounds-marks-i
+    (λ c κs. search rules)
+    (λ c. search rules)
     bounds-marks-i
     overflow_cast-at
-    overflow_mul-i
+    (λ c. search rules)
     find_from-requires
-    returns)
+    (λ c. search rules))

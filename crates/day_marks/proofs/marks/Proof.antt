@@ -51,27 +51,6 @@ loop-i-init c = let o = read_day c.args.file.now in (omega arith, first_header o
 overflow_cast-marks : tie.Need-overflow_cast-marks invariant-loop-i decreases-loop-i
 overflow_cast-marks c = omega (arith, short c.before)
 
-offset_bounds-marks-i : tie.Need-offset_bounds-marks-i invariant-loop-i decreases-loop-i
-offset_bounds-marks-i c = search rules
-
-bounds-marks-i : tie.Need-bounds-marks-i invariant-loop-i decreases-loop-i
-bounds-marks-i c = search rules
-
-overflow_mul-i : tie.Need-overflow_mul-i invariant-loop-i decreases-loop-i
-overflow_mul-i c = search rules
-
-smaller-from-requires : tie.Need-smaller-from-requires invariant-loop-i decreases-loop-i
-smaller-from-requires c κs = search rules
-
-overflow_mul-i-in-loop-i : tie.Need-overflow_mul-i-in-loop-i invariant-loop-i decreases-loop-i
-overflow_mul-i-in-loop-i c = search rules
-
-overflow_add-i : tie.Need-overflow_add-i invariant-loop-i decreases-loop-i
-overflow_add-i c = search rules
-
-smaller-next-requires : tie.Need-smaller-next-requires invariant-loop-i decreases-loop-i
-smaller-next-requires c κs = search rules
-
 place_from-place-requires : tie.Need-place_from-place-requires invariant-loop-i decreases-loop-i
 place_from-place-requires c κs =
     let l = looped c in
@@ -84,12 +63,6 @@ place_from-place-requires c κs =
       omega (arith, from, next, most),
       omega (arith, next, min-le_right (64 * i l + 64) headers, (start l).requires),
     )
-
-overflow_add-i-in-loop-i : tie.Need-overflow_add-i-in-loop-i invariant-loop-i decreases-loop-i
-overflow_add-i-in-loop-i c = search rules
-
-loop-i-smaller : tie.Need-loop-i-smaller invariant-loop-i decreases-loop-i
-loop-i-smaller c = search rules
 
 loop-i-preserved : tie.Need-loop-i-preserved invariant-loop-i decreases-loop-i
 loop-i-preserved c =
@@ -115,15 +88,15 @@ marks_spec =
     decreases-loop-i
     loop-i-init
     overflow_cast-marks
-    offset_bounds-marks-i
-    bounds-marks-i
-    overflow_mul-i
-    smaller-from-requires
-    overflow_mul-i-in-loop-i
-    overflow_add-i
-    smaller-next-requires
+    (λ c. search rules)
+    (λ c. search rules)
+    (λ c. search rules)
+    (λ c κs. search rules)
+    (λ c. search rules)
+    (λ c. search rules)
+    (λ c κs. search rules)
     place_from-place-requires
-    overflow_add-i-in-loop-i
-    loop-i-smaller
+    (λ c. search rules)
+    (λ c. search rules)
     loop-i-preserved
     returns)

@@ -51,15 +51,6 @@ module _ (c : tie.Else-records-k) where
   there : Stands (f c.before) (records c.before) k
   there = stands (f c.before) (low c.before) (records c.before) k many c.if-records-k.false
 
-check-requires : tie.Need-check-requires
-check-requires c κs = search rules
-
-enum_known-records : tie.Need-enum_known-records
-enum_known-records c = search rules
-
-enum_told-1 : tie.Need-enum_told-1
-enum_told-1 c = search rules
-
 returns-in_default : tie.Need-returns-in_default
 returns-in_default c =
     let h = c.before in
@@ -93,12 +84,6 @@ slice_bounds-open-start-2 c = omega arith
 slice_bounds-open-end-2 : tie.Need-slice_bounds-open-end-2
 slice_bounds-open-end-2 c = omega arith
 
-open-answer-requires : tie.Need-open-answer-requires
-open-answer-requires c κs = search rules
-
-shape_of-out : tie.Need-shape_of-out
-shape_of-out c = search rules
-
 returns : tie.Need-returns
 returns c =
     let o = c.before.before in
@@ -111,9 +96,9 @@ pub open_spec : {M : Type 1} → statement M
 open_spec =
     tie.close
     (tie.spec
-    check-requires
-    enum_known-records
-    enum_told-1
+    (λ c κs. search rules)
+    (λ c. search rules)
+    (λ c. search rules)
     returns-in_default
     returns-then-records-k
     find-f-requires
@@ -123,6 +108,6 @@ open_spec =
     slice_bounds-open-count-2
     slice_bounds-open-start-2
     slice_bounds-open-end-2
-    open-answer-requires
-    shape_of-out
+    (λ c κs. search rules)
+    (λ c. search rules)
     returns)

@@ -7,18 +7,6 @@ use borrow.Author.Rules.{rules}
 use Rattle.day_pack.proofs.bit.Statement.{statement}
 use Rattle.day_pack.proofs.bit.Tie as tie
 
-weight-w-requires : tie.Need-weight-w-requires
-weight-w-requires c κs = search rules
-
-bounds-table-n : tie.Need-bounds-table-n
-bounds-table-n c = search rules
-
-nonzero_div-table : tie.Need-nonzero_div-table
-nonzero_div-table c = search rules
-
-as_number-requires : tie.Need-as_number-requires
-as_number-requires c κs = search rules
-
 returns : tie.Need-returns
 returns c =
     let w = c.before.before in
@@ -29,8 +17,8 @@ pub bit_spec : {M : Type 1} → statement M
 bit_spec =
     tie.close
     (tie.spec
-    weight-w-requires
-    bounds-table-n
-    nonzero_div-table
-    as_number-requires
+    (λ c κs. search rules)
+    (λ c. search rules)
+    (λ c. search rules)
+    (λ c κs. search rules)
     returns)

@@ -14,15 +14,6 @@ invariant-loop-i table before n r₀ i₀ r i = (i ≤ n) × (r ≡ bits_below t
 abbrev decreases-loop-i : tie.decreases-loop-i
 decreases-loop-i table before n r₀ i₀ r i = n - i
 
-offset_bounds-before-n : tie.Need-offset_bounds-before-n invariant-loop-i decreases-loop-i
-offset_bounds-before-n c = search rules
-
-bounds-before-n : tie.Need-bounds-before-n invariant-loop-i decreases-loop-i
-bounds-before-n c = search rules
-
-overflow_mul-i : tie.Need-overflow_mul-i invariant-loop-i decreases-loop-i
-overflow_mul-i c = search rules
-
 loop-i-init : tie.Need-loop-i-init invariant-loop-i decreases-loop-i
 loop-i-init c = (omega arith, c.requires.1)
 
@@ -34,12 +25,6 @@ overflow_add-r c =
     let l = c.loop-i in
     let s = c.before.before.before.before in
     omega (arith, bits_below_lem s.args.table.now l.i, l.invariant.1, c.bit-r.ensures.1, s.requires.0)
-
-overflow_add-i : tie.Need-overflow_add-i invariant-loop-i decreases-loop-i
-overflow_add-i c = search rules
-
-loop-i-smaller : tie.Need-loop-i-smaller invariant-loop-i decreases-loop-i
-loop-i-smaller c = search rules
 
 loop-i-preserved : tie.Need-loop-i-preserved invariant-loop-i decreases-loop-i
 loop-i-preserved c =
@@ -59,13 +44,13 @@ count_spec =
     (tie.spec
     invariant-loop-i
     decreases-loop-i
-    offset_bounds-before-n
-    bounds-before-n
-    overflow_mul-i
+    (λ c. search rules)
+    (λ c. search rules)
+    (λ c. search rules)
     loop-i-init
     bit-r-requires
     overflow_add-r
-    overflow_add-i
-    loop-i-smaller
+    (λ c. search rules)
+    (λ c. search rules)
     loop-i-preserved
     returns)

@@ -10,18 +10,6 @@ use borrow.Author.Rules.{rules}
 use Rattle.day_pack.proofs.mark.Statement.{statement}
 use Rattle.day_pack.proofs.mark.Tie as tie
 
-returns-then-leave : tie.Need-returns-then-leave
-returns-then-leave c = search rules
-
-weight-w-requires : tie.Need-weight-w-requires
-weight-w-requires c κs = search rules
-
-bounds-table-n : tie.Need-bounds-table-n
-bounds-table-n c = search rules
-
-bounds-table-n-2 : tie.Need-bounds-table-n-2
-bounds-table-n-2 c = search rules
-
 returns : tie.Need-returns
 returns c =
     let w = c.before in
@@ -35,8 +23,8 @@ pub mark_spec : {M : Type 1} → statement M
 mark_spec =
     tie.close
     (tie.spec
-    returns-then-leave
-    weight-w-requires
-    bounds-table-n
-    bounds-table-n-2
+    (λ c. search rules)
+    (λ c κs. search rules)
+    (λ c. search rules)
+    (λ c. search rules)
     returns)

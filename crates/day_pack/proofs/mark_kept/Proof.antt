@@ -81,20 +81,11 @@ loop-k-init c =
 entry_at-e-requires : tie.Need-entry_at-e-requires invariant-loop-k decreases-loop-k
 entry_at-e-requires c κs = (room c, (start c).requires.0.short)
 
-next_is-named-requires : tie.Need-next_is-named-requires invariant-loop-k decreases-loop-k
-next_is-named-requires c κs = search rules
-
 mark-requires : tie.Need-mark-requires invariant-loop-k decreases-loop-k
 mark-requires c κs = let e = c.before.before in omega (arith, number_is e, few e.before)
 
 step-j-requires : tie.Need-step-j-requires invariant-loop-k decreases-loop-k
 step-j-requires c κs = let t = c.before.before.before.before in omega (arith, small t, t.loop-k.invariant.3)
-
-overflow_add-k : tie.Need-overflow_add-k invariant-loop-k decreases-loop-k
-overflow_add-k c = search rules
-
-loop-k-smaller : tie.Need-loop-k-smaller invariant-loop-k decreases-loop-k
-loop-k-smaller c = search rules
 
 loop-k-preserved : tie.Need-loop-k-preserved invariant-loop-k decreases-loop-k
 loop-k-preserved c =
@@ -135,11 +126,11 @@ mark_kept_spec =
     decreases-loop-k
     loop-k-init
     entry_at-e-requires
-    next_is-named-requires
+    (λ c κs. search rules)
     mark-requires
     step-j-requires
-    overflow_add-k
-    loop-k-smaller
+    (λ c. search rules)
+    (λ c. search rules)
     loop-k-preserved
     overflow_sub-result
     returns)

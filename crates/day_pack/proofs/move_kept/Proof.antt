@@ -11,36 +11,16 @@ use borrow.Author.Rules.{rules}
 use Rattle.day_pack.proofs.move_kept.Statement.{statement}
 use Rattle.day_pack.proofs.move_kept.Tie as tie
 
-move_left-requires : tie.Need-move_left-requires
-move_left-requires c κs = search rules
-
-overflow_add-result : tie.Need-overflow_add-result
-overflow_add-result c = search rules
-
-shape_of-out-then-set-eq1 : tie.Need-shape_of-out-then-set-eq1
-shape_of-out-then-set-eq1 c = search rules
-
-returns-then-set-eq1 : tie.Need-returns-then-set-eq1
-returns-then-set-eq1 c =
-    let m = c.before.before in
-    let t = m.before.before in
-    let s = t.before.before in
-    let a = s.args in
-    let X : Bytes = take a.n (drop a.from a.out.now) in
-    let is = part_set a.set X t.if-set-eq1.true in
-    let long : length X ≡ a.n = length-take-le a.n (drop a.from a.out.now) (omega (arith, length-drop a.from a.out.now, s.requires.1)) in
-    (omega (arith, ap length is, long), m.move_left.ensures ∙ ap (λ (w : Bytes). placed a.to w a.out.now) (sym is))
-
 returns : tie.Need-returns
 returns c =
     let a = c.args in
-    let is = part_unset a.set (take a.n (drop a.from a.out.now)) c.if-set-eq1.false in
+    let is = part_unset a.set (take a.n (drop a.from a.out.now)) (omega arith) in
     (omega (arith, ap length is), placed_none a.to _ a.out.now is)
 
 pub move_kept_spec : {M : Type 1} → statement M
 move_kept_spec = tie.close (tie.spec
-    move_left-requires
-    overflow_add-result
-    shape_of-out-then-set-eq1
-    returns-then-set-eq1
+    (λ c κs. search rules)
+    (λ c. search rules)
+    (λ c. search rules)
+    (λ c. let m = c.before.before in let t = m.before.before in let s = t.before.before in let a = s.args in let X : Bytes = take a.n (drop a.from a.out.now) in let is = part_set a.set X (omega arith) in let long : length X ≡ a.n = length-take-le a.n (drop a.from a.out.now) (omega (arith, length-drop a.from a.out.now, s.requires.1)) in (omega (arith, ap length is, long), m.move_left.ensures ∙ ap (λ (w : Bytes). placed a.to w a.out.now) (sym is)))
     returns)

@@ -8,12 +8,6 @@ use borrow.Author.Rules.{rules}
 use Rattle.day_pack.proofs.next_is.Statement.{statement}
 use Rattle.day_pack.proofs.next_is.Tie as tie
 
-offset_bounds-dropped-j : tie.Need-offset_bounds-dropped-j
-offset_bounds-dropped-j c = search rules
-
-bounds-dropped-j : tie.Need-bounds-dropped-j
-bounds-dropped-j c = search rules
-
 returns-then-j-dropped : tie.Need-returns-then-j-dropped
 returns-then-j-dropped c =
     let t = c.before in
@@ -27,7 +21,7 @@ returns c =
 
 pub next_is_spec : {M : Type 1} → statement M
 next_is_spec = tie.close (tie.spec
-    offset_bounds-dropped-j
-    bounds-dropped-j
+    (λ c. search rules)
+    (λ c. search rules)
     returns-then-j-dropped
     returns)

@@ -9,12 +9,6 @@ use Rattle.std.specs.Prelude.{if◌then◌else◌}
 use Rattle.day_pack.proofs.note.Statement.{statement}
 use Rattle.day_pack.proofs.note.Tie as tie
 
-offset_bounds-before-n : tie.Need-offset_bounds-before-n
-offset_bounds-before-n c = search rules
-
-bounds-before-n : tie.Need-bounds-before-n
-bounds-before-n c = search rules
-
 returns-then-n-eq0 : tie.Need-returns-then-n-eq0
 returns-then-n-eq0 c =
     let a = c.args in
@@ -29,7 +23,7 @@ pub note_spec : {M : Type 1} → statement M
 note_spec =
     tie.close
     (tie.spec
-    offset_bounds-before-n
-    bounds-before-n
+    (λ c. search rules)
+    (λ c. search rules)
     returns-then-n-eq0
     returns-else-n-eq0)

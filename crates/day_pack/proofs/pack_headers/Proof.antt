@@ -109,12 +109,6 @@ overflow_add-from c =
     let t = turn w in
     omega (arith, room t, size_is w, t.loop-i.invariant.1)
 
-overflow_add-i : tie.Need-overflow_add-i invariant-loop-i decreases-loop-i
-overflow_add-i c = search rules
-
-loop-i-smaller : tie.Need-loop-i-smaller invariant-loop-i decreases-loop-i
-loop-i-smaller c = search rules
-
 loop-i-preserved : tie.Need-loop-i-preserved invariant-loop-i decreases-loop-i
 loop-i-preserved c =
     let m = c.before.before in
@@ -164,8 +158,8 @@ pack_headers_spec =
     bit-requires
     move_kept-to-requires
     overflow_add-from
-    overflow_add-i
-    loop-i-smaller
+    (λ c. search rules)
+    (λ c. search rules)
     loop-i-preserved
     shape_of-out
     returns)

@@ -169,9 +169,6 @@ entry_at-e-requires c κs =
     let t = c in
     (omega (arith, room t, here t, front_long t), omega (arith, front_long t, f_long t, (begin t).requires.0.short))
 
-next_is-named-requires : tie.Need-next_is-named-requires invariant-loop-k decreases-loop-k
-next_is-named-requires c κs = search rules
-
 put_kept-to-requires : tie.Need-put_kept-to-requires invariant-loop-k decreases-loop-k
 put_kept-to-requires c κs =
     let e = c.before.before in
@@ -187,12 +184,6 @@ step-j-requires : tie.Need-step-j-requires invariant-loop-k decreases-loop-k
 step-j-requires c κs =
     let t = turn c.before.before.before.before.before in
     omega (arith, small t, t.loop-k.invariant.3)
-
-overflow_add-k : tie.Need-overflow_add-k invariant-loop-k decreases-loop-k
-overflow_add-k c = search rules
-
-loop-k-smaller : tie.Need-loop-k-smaller invariant-loop-k decreases-loop-k
-loop-k-smaller c = search rules
 
 loop-k-preserved : tie.Need-loop-k-preserved invariant-loop-k decreases-loop-k
 loop-k-preserved c =
@@ -246,11 +237,11 @@ pack_records_spec =
     slice_bounds-entry_at-end
     slice_bounds-entry_at-end-in-loop-k
     entry_at-e-requires
-    next_is-named-requires
+    (λ c κs. search rules)
     put_kept-to-requires
     step-j-requires
-    overflow_add-k
-    loop-k-smaller
+    (λ c. search rules)
+    (λ c. search rules)
     loop-k-preserved
     shape_of-out
     returns)

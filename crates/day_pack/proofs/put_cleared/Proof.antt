@@ -43,9 +43,6 @@ overflow_mul-last c = omega (arith, clears.size_is (b c), clears.size_short (b c
 overflow_sub-last-2 : tie.Need-overflow_sub-last-2
 overflow_sub-last-2 c = omega (arith, clears.size_is (b c))
 
-slice_bounds-mark_kept-end : tie.Need-slice_bounds-mark_kept-end
-slice_bounds-mark_kept-end c = search rules
-
 slice_bounds-mark_kept-end-2 : tie.Need-slice_bounds-mark_kept-end-2
 slice_bounds-mark_kept-end-2 c = let k = c in sym (length-take-le (last_of (b k)) (B k) (last_inside k))
 
@@ -57,12 +54,6 @@ put_marked-requires c κs =
     let marked = c.before.before in
     ((start marked.before.before).requires, marked.mark_kept-kept.ensures.1, marked.mark_kept-kept.ensures.0)
 
-shape_of-out : tie.Need-shape_of-out
-shape_of-out c = search rules
-
-returns : tie.Need-returns
-returns c = search rules
-
 pub put_cleared_spec : {M : Type 1} → statement M
 put_cleared_spec =
     tie.close
@@ -70,9 +61,9 @@ put_cleared_spec =
     overflow_sub-last
     overflow_mul-last
     overflow_sub-last-2
-    slice_bounds-mark_kept-end
+    (λ c. search rules)
     slice_bounds-mark_kept-end-2
     mark_kept-kept-requires
     put_marked-requires
-    shape_of-out
-    returns)
+    (λ c. search rules)
+    (λ c. search rules))

@@ -25,33 +25,6 @@ returns-then-dropped c =
 count-n-requires : tie.Need-count-n-requires
 count-n-requires c κs = let s = c.before.before in (s.requires.3, s.requires.4)
 
-put_two-requires : tie.Need-put_two-requires
-put_two-requires c κs = search rules
-
-overflow_add-to : tie.Need-overflow_add-to
-overflow_add-to c = search rules
-
-overflow_add-from : tie.Need-overflow_add-from
-overflow_add-from c = search rules
-
-overflow_add-from-2 : tie.Need-overflow_add-from-2
-overflow_add-from-2 c = search rules
-
-overflow_sub-end : tie.Need-overflow_sub-end
-overflow_sub-end c = search rules
-
-move_left-requires : tie.Need-move_left-requires
-move_left-requires c κs = search rules
-
-overflow_sub-result : tie.Need-overflow_sub-result
-overflow_sub-result c = search rules
-
-overflow_add-result : tie.Need-overflow_add-result
-overflow_add-result c = search rules
-
-shape_of-out : tie.Need-shape_of-out
-shape_of-out c = search rules
-
 returns : tie.Need-returns
 returns c =
     let m = c.before.before in
@@ -73,13 +46,13 @@ put_kept_spec =
     (tie.spec
     returns-then-dropped
     count-n-requires
-    put_two-requires
-    overflow_add-to
-    overflow_add-from
-    overflow_add-from-2
-    overflow_sub-end
-    move_left-requires
-    overflow_sub-result
-    overflow_add-result
-    shape_of-out
+    (λ c κs. search rules)
+    (λ c. search rules)
+    (λ c. search rules)
+    (λ c. search rules)
+    (λ c. search rules)
+    (λ c κs. search rules)
+    (λ c. search rules)
+    (λ c. search rules)
+    (λ c. search rules)
     returns)

@@ -221,12 +221,6 @@ slice_bounds-clear-start c = omega (arith, end_room (recorded c.before.before))
 slice_bounds-clear-end : tie.Need-slice_bounds-clear-end
 slice_bounds-clear-end c = let p = c.before.before in omega (arith, index_long p, (start (k₅ p)).requires.0.inside)
 
-clear-requires : tie.Need-clear-requires
-clear-requires c κs = search rules
-
-shape_of-out : tie.Need-shape_of-out
-shape_of-out c = search rules
-
 returns : tie.Need-returns
 returns c =
     let z = c.before.before in
@@ -262,6 +256,6 @@ put_marked_spec =
     slice_bounds-clear-count
     slice_bounds-clear-start
     slice_bounds-clear-end
-    clear-requires
-    shape_of-out
+    (λ c κs. search rules)
+    (λ c. search rules)
     returns)

@@ -7,17 +7,11 @@ use Rattle.std.specs.Prelude.{if◌then◌else◌}
 use Rattle.day_pack.proofs.step.Statement.{statement}
 use Rattle.day_pack.proofs.step.Tie as tie
 
-overflow_add-result : tie.Need-overflow_add-result
-overflow_add-result c = search rules
-
 returns-then-so : tie.Need-returns-then-so
 returns-then-so c = let n = c.args.n in ap (λ (b : Bool). if b then n + 1 else n) (sym c.if-so.true)
 
-returns : tie.Need-returns
-returns c = search rules
-
 pub step_spec : {M : Type 1} → statement M
 step_spec = tie.close (tie.spec
-    overflow_add-result
+    (λ c. search rules)
     returns-then-so
-    returns)
+    (λ c. search rules))

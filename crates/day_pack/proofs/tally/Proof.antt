@@ -52,9 +52,6 @@ overflow_add-r c =
 overflow_add-i : tie.Need-overflow_add-i invariant-loop-i decreases-loop-i
 overflow_add-i c = omega (arith, inside (turn (noted c)))
 
-loop-i-smaller : tie.Need-loop-i-smaller invariant-loop-i decreases-loop-i
-loop-i-smaller c = search rules
-
 loop-i-preserved : tie.Need-loop-i-preserved invariant-loop-i decreases-loop-i
 loop-i-preserved c =
     let n = noted c in
@@ -84,6 +81,6 @@ tally_spec =
     bit-r-requires
     overflow_add-r
     overflow_add-i
-    loop-i-smaller
+    (λ c. search rules)
     loop-i-preserved
     returns)

@@ -4,13 +4,10 @@ use borrow.Author.Rules.{rules}
 use Rattle.day_pack.proofs.weight.Statement.{statement}
 use Rattle.day_pack.proofs.weight.Tie as tie
 
-bounds-i : tie.Need-bounds-i
-bounds-i c = search rules
-
 returns : tie.Need-returns
 returns c = (weight_is c.args.i c.requires, weight_some c.args.i c.requires)
 
 pub weight_spec : {M : Type 1} → statement M
 weight_spec = tie.close (tie.spec
-    bounds-i
+    (λ c. search rules)
     returns)

@@ -20,23 +20,8 @@ loop-i-init c =
     let a = c.args in
     (omega arith, refl, paste-zero a.out.now a.to (take a.n (drop a.from a.out.now)))
 
-overflow_add-out : tie.Need-overflow_add-out invariant-loop-i decreases-loop-i
-overflow_add-out c = search rules
-
-bounds-out-from : tie.Need-bounds-out-from invariant-loop-i decreases-loop-i
-bounds-out-from c = omega (arith, c.loop-i.invariant.1)
-
-overflow_add-out-in-loop-i : tie.Need-overflow_add-out-in-loop-i invariant-loop-i decreases-loop-i
-overflow_add-out-in-loop-i c = search rules
-
 bounds-out-to : tie.Need-bounds-out-to invariant-loop-i decreases-loop-i
 bounds-out-to c = omega (arith, c.loop-i.invariant.1)
-
-overflow_add-i : tie.Need-overflow_add-i invariant-loop-i decreases-loop-i
-overflow_add-i c = search rules
-
-loop-i-smaller : tie.Need-loop-i-smaller invariant-loop-i decreases-loop-i
-loop-i-smaller c = search rules
 
 loop-i-preserved : tie.Need-loop-i-preserved invariant-loop-i decreases-loop-i
 loop-i-preserved c =
@@ -62,12 +47,12 @@ move_left_spec =
     invariant-loop-i
     decreases-loop-i
     loop-i-init
-    overflow_add-out
-    bounds-out-from
-    overflow_add-out-in-loop-i
+    (λ c. search rules)
+    (λ c. omega (arith, c.loop-i.invariant.1))
+    (λ c. search rules)
     bounds-out-to
-    overflow_add-i
-    loop-i-smaller
+    (λ c. search rules)
+    (λ c. search rules)
     loop-i-preserved
     shape_of-out
     returns)

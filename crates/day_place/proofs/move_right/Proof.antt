@@ -21,24 +21,6 @@ loop-left-init c =
     let a = c.args in
     (omega arith, refl, right_none a.out.now a.to a.from a.n c.requires.0 c.requires.1)
 
-overflow_sub-left : tie.Need-overflow_sub-left invariant-loop-left decreases-loop-left
-overflow_sub-left c = search rules
-
-overflow_add-out : tie.Need-overflow_add-out invariant-loop-left decreases-loop-left
-overflow_add-out c = search rules
-
-bounds-out-from : tie.Need-bounds-out-from invariant-loop-left decreases-loop-left
-bounds-out-from c = search rules
-
-overflow_add-out-in-loop-left : tie.Need-overflow_add-out-in-loop-left invariant-loop-left decreases-loop-left
-overflow_add-out-in-loop-left c = search rules
-
-bounds-out-to : tie.Need-bounds-out-to invariant-loop-left decreases-loop-left
-bounds-out-to c = search rules
-
-loop-left-smaller : tie.Need-loop-left-smaller invariant-loop-left decreases-loop-left
-loop-left-smaller c = search rules
-
 loop-left-preserved : tie.Need-loop-left-preserved invariant-loop-left decreases-loop-left
 loop-left-preserved c =
     let l = c.loop-left in
@@ -63,12 +45,12 @@ move_right_spec =
     invariant-loop-left
     decreases-loop-left
     loop-left-init
-    overflow_sub-left
-    overflow_add-out
-    bounds-out-from
-    overflow_add-out-in-loop-left
-    bounds-out-to
-    loop-left-smaller
+    (λ c. search rules)
+    (λ c. search rules)
+    (λ c. search rules)
+    (λ c. search rules)
+    (λ c. search rules)
+    (λ c. search rules)
     loop-left-preserved
     shape_of-out
     returns)

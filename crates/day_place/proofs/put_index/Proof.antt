@@ -21,15 +21,6 @@ listed c = c.before.before.before.before
 abbrev start : tie.After-put_places → tie.Start
 start c = c.before.before.before
 
-put_places-requires : tie.Need-put_places-requires
-put_places-requires c κs = search rules
-
-put_four-requires : tie.Need-put_four-requires
-put_four-requires c κs = search rules
-
-shape_of-out : tie.Need-shape_of-out
-shape_of-out c = search rules
-
 returns : tie.Need-returns
 returns c =
     let put = c.before.before in
@@ -45,7 +36,7 @@ returns c =
 
 pub put_index_spec : {M : Type 1} → statement M
 put_index_spec = tie.close (tie.spec
-    put_places-requires
-    put_four-requires
-    shape_of-out
+    (λ c κs. search rules)
+    (λ c κs. search rules)
+    (λ c. search rules)
     returns)

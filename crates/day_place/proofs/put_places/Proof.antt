@@ -100,15 +100,6 @@ loop-i-init c =
     let a = c.args in
     (omega arith, refl, refl, placed_none (a.at + 4) [] a.out.now refl)
 
-overflow_add-at : tie.Need-overflow_add-at invariant-loop-i decreases-loop-i
-overflow_add-at c = search rules
-
-overflow_mul-i : tie.Need-overflow_mul-i invariant-loop-i decreases-loop-i
-overflow_mul-i c = search rules
-
-overflow_add-at-in-loop-i : tie.Need-overflow_add-at-in-loop-i invariant-loop-i decreases-loop-i
-overflow_add-at-in-loop-i c = search rules
-
 put_four-requires : tie.Need-put_four-requires invariant-loop-i decreases-loop-i
 put_four-requires c κs = omega (arith, c.loop-i.invariant.2, (start c.before).requires.1)
 
@@ -122,12 +113,6 @@ entry_at-e-requires : tie.Need-entry_at-e-requires invariant-loop-i decreases-lo
 entry_at-e-requires c κs =
     let p = c.before.before in
     (omega (arith, front_long p, room (turn p)), omega (arith, front_long p, (start (turn p)).requires.2))
-
-overflow_add-i : tie.Need-overflow_add-i invariant-loop-i decreases-loop-i
-overflow_add-i c = search rules
-
-loop-i-smaller : tie.Need-loop-i-smaller invariant-loop-i decreases-loop-i
-loop-i-smaller c = search rules
 
 loop-i-preserved : tie.Need-loop-i-preserved invariant-loop-i decreases-loop-i
 loop-i-preserved c =
@@ -158,15 +143,15 @@ put_places_spec =
     invariant-loop-i
     decreases-loop-i
     loop-i-init
-    overflow_add-at
-    overflow_mul-i
-    overflow_add-at-in-loop-i
+    (λ c. search rules)
+    (λ c. search rules)
+    (λ c. search rules)
     put_four-requires
     slice_bounds-entry_at-end
     slice_bounds-entry_at-end-in-loop-i
     entry_at-e-requires
-    overflow_add-i
-    loop-i-smaller
+    (λ c. search rules)
+    (λ c. search rules)
     loop-i-preserved
     shape_of-out
     returns)

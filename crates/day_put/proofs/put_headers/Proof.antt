@@ -66,20 +66,8 @@ loop-i-init c =
     let a = s.args in
     (put_none (headers_written (headers_of a.lengths.now a.headers.now)) a.start a.out.now, s.requires.0, omega arith, omega arith, omega (arith, s.requires.1))
 
-offset_bounds-lengths-i : tie.Need-offset_bounds-lengths-i invariant-loop-i decreases-loop-i
-offset_bounds-lengths-i c = search rules
-
-bounds-lengths-i : tie.Need-bounds-lengths-i invariant-loop-i decreases-loop-i
-bounds-lengths-i c = search rules
-
 overflow_add-to : tie.Need-overflow_add-to invariant-loop-i decreases-loop-i
 overflow_add-to c = omega (arith, (next c.before).0)
-
-slice_bounds-put-count : tie.Need-slice_bounds-put-count invariant-loop-i decreases-loop-i
-slice_bounds-put-count c = search rules
-
-slice_bounds-put-start : tie.Need-slice_bounds-put-start invariant-loop-i decreases-loop-i
-slice_bounds-put-start c = search rules
 
 slice_bounds-put-end : tie.Need-slice_bounds-put-end invariant-loop-i decreases-loop-i
 slice_bounds-put-end c = (next c.before.before).0
@@ -88,12 +76,6 @@ put-at-requires : tie.Need-put-at-requires invariant-loop-i decreases-loop-i
 put-at-requires c κs =
     let l = looped c in
     omega (arith, part_long l, l.loop-i.invariant.4, (next l).0, l.loop-i.invariant.0.kept)
-
-overflow_add-i : tie.Need-overflow_add-i invariant-loop-i decreases-loop-i
-overflow_add-i c = search rules
-
-loop-i-smaller : tie.Need-loop-i-smaller invariant-loop-i decreases-loop-i
-loop-i-smaller c = search rules
 
 loop-i-preserved : tie.Need-loop-i-preserved invariant-loop-i decreases-loop-i
 loop-i-preserved c =
@@ -128,15 +110,15 @@ put_headers_spec =
     invariant-loop-i
     decreases-loop-i
     loop-i-init
-    offset_bounds-lengths-i
-    bounds-lengths-i
+    (λ c. search rules)
+    (λ c. search rules)
     overflow_add-to
-    slice_bounds-put-count
-    slice_bounds-put-start
+    (λ c. search rules)
+    (λ c. search rules)
     slice_bounds-put-end
     put-at-requires
-    overflow_add-i
-    loop-i-smaller
+    (λ c. search rules)
+    (λ c. search rules)
     loop-i-preserved
     shape_of-out
     returns)

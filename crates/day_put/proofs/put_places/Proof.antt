@@ -50,20 +50,8 @@ put_four-requires c κs = omega (arith, space c.before, c.loop-i.invariant.2.2.k
 overflow_add-place : tie.Need-overflow_add-place invariant-loop-i decreases-loop-i
 overflow_add-place c = omega (arith, past c.before.before.before.before)
 
-offset_bounds-sizes-i : tie.Need-offset_bounds-sizes-i invariant-loop-i decreases-loop-i
-offset_bounds-sizes-i c = search rules
-
-bounds-sizes-i : tie.Need-bounds-sizes-i invariant-loop-i decreases-loop-i
-bounds-sizes-i c = search rules
-
 overflow_add-place-in-loop-i : tie.Need-overflow_add-place-in-loop-i invariant-loop-i decreases-loop-i
 overflow_add-place-in-loop-i c = omega (arith, past c.before.before.before.before.before)
-
-overflow_add-i : tie.Need-overflow_add-i invariant-loop-i decreases-loop-i
-overflow_add-i c = search rules
-
-loop-i-smaller : tie.Need-loop-i-smaller invariant-loop-i decreases-loop-i
-loop-i-smaller c = search rules
 
 loop-i-preserved : tie.Need-loop-i-preserved invariant-loop-i decreases-loop-i
 loop-i-preserved c =
@@ -102,11 +90,11 @@ put_places_spec =
     overflow_add-start
     put_four-requires
     overflow_add-place
-    offset_bounds-sizes-i
-    bounds-sizes-i
+    (λ c. search rules)
+    (λ c. search rules)
     overflow_add-place-in-loop-i
-    overflow_add-i
-    loop-i-smaller
+    (λ c. search rules)
+    (λ c. search rules)
     loop-i-preserved
     shape_of-out
     returns)

@@ -47,28 +47,10 @@ begun c = c.before.before.before.before
 abbrev numbered : tie.After-put_four → tie.After-put_two
 numbered c = c.before.before.before.before
 
-put_two-requires : tie.Need-put_two-requires
-put_two-requires c κs = search rules
-
-overflow_cast-out : tie.Need-overflow_cast-out
-overflow_cast-out c = search rules
-
-overflow_add-out : tie.Need-overflow_add-out
-overflow_add-out c = search rules
-
-bounds-out-at : tie.Need-bounds-out-at
-bounds-out-at c = search rules
-
-overflow_add-at : tie.Need-overflow_add-at
-overflow_add-at c = search rules
-
 put_four-requires : tie.Need-put_four-requires
 put_four-requires c κs =
     let t = c.before.before.before in
     simp length-set (omega (arith, t.put_two.auto.out, (begun t).requires.1))
-
-overflow_add-at-2 : tie.Need-overflow_add-at-2
-overflow_add-at-2 c = search rules
 
 copy-requires : tie.Need-copy-requires
 copy-requires c κs =
@@ -96,13 +78,13 @@ pub put_record_spec : {M : Type 1} → statement M
 put_record_spec =
     tie.close
     (tie.spec
-    put_two-requires
-    overflow_cast-out
-    overflow_add-out
-    bounds-out-at
-    overflow_add-at
+    (λ c κs. search rules)
+    (λ c. search rules)
+    (λ c. search rules)
+    (λ c. search rules)
+    (λ c. search rules)
     put_four-requires
-    overflow_add-at-2
+    (λ c. search rules)
     copy-requires
     shape_of-out
     returns)

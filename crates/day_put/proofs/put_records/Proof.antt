@@ -106,12 +106,6 @@ loop-i-init c =
     let a = s.args in
     (put_none (records_written (records_of a.headers a.numbers.now a.stretches.now a.sizes.now a.sealed.now)) a.start a.out.now, (is_right s).records, omega arith, omega arith, omega (arith, s.requires.1))
 
-offset_bounds-sizes-i : tie.Need-offset_bounds-sizes-i invariant-loop-i decreases-loop-i
-offset_bounds-sizes-i c = search rules
-
-bounds-sizes-i : tie.Need-bounds-sizes-i invariant-loop-i decreases-loop-i
-bounds-sizes-i c = search rules
-
 overflow_add-to : tie.Need-overflow_add-to invariant-loop-i decreases-loop-i
 overflow_add-to c = omega (arith, (next c.before).0)
 
@@ -126,12 +120,6 @@ offset_bounds-stretches-i c = omega (arith, stretches_there c.before.before.befo
 
 bounds-stretches-i : tie.Need-bounds-stretches-i invariant-loop-i decreases-loop-i
 bounds-stretches-i c = stretches_there c.before.before.before.before
-
-slice_bounds-put_record-count : tie.Need-slice_bounds-put_record-count invariant-loop-i decreases-loop-i
-slice_bounds-put_record-count c = search rules
-
-slice_bounds-put_record-start : tie.Need-slice_bounds-put_record-start invariant-loop-i decreases-loop-i
-slice_bounds-put_record-start c = search rules
 
 slice_bounds-put_record-end : tie.Need-slice_bounds-put_record-end invariant-loop-i decreases-loop-i
 slice_bounds-put_record-end c = (next c.before.before.before.before).0
@@ -150,12 +138,6 @@ overflow_add-at-in-loop-i : tie.Need-overflow_add-at-in-loop-i invariant-loop-i 
 overflow_add-at-in-loop-i c =
     let l = looped c.before.before.before in
     omega (arith, l.loop-i.invariant.4, (next l).0)
-
-overflow_add-i : tie.Need-overflow_add-i invariant-loop-i decreases-loop-i
-overflow_add-i c = search rules
-
-loop-i-smaller : tie.Need-loop-i-smaller invariant-loop-i decreases-loop-i
-loop-i-smaller c = search rules
 
 loop-i-preserved : tie.Need-loop-i-preserved invariant-loop-i decreases-loop-i
 loop-i-preserved c =
@@ -189,21 +171,21 @@ put_records_spec =
     invariant-loop-i
     decreases-loop-i
     loop-i-init
-    offset_bounds-sizes-i
-    bounds-sizes-i
+    (λ c. search rules)
+    (λ c. search rules)
     overflow_add-to
     offset_bounds-numbers-i
     bounds-numbers-i
     offset_bounds-stretches-i
     bounds-stretches-i
-    slice_bounds-put_record-count
-    slice_bounds-put_record-start
+    (λ c. search rules)
+    (λ c. search rules)
     slice_bounds-put_record-end
     put_record-requires
     overflow_add-at
     overflow_add-at-in-loop-i
-    overflow_add-i
-    loop-i-smaller
+    (λ c. search rules)
+    (λ c. search rules)
     loop-i-preserved
     shape_of-out
     returns)

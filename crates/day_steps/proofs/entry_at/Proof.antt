@@ -6,29 +6,8 @@ use borrow.Author.Rules.{rules}
 use Rattle.day_steps.proofs.entry_at.Statement.{statement}
 use Rattle.day_steps.proofs.entry_at.Tie as tie
 
-two-header-requires : tie.Need-two-header-requires
-two-header-requires c κs = search rules
-
-overflow_add-stretch : tie.Need-overflow_add-stretch
-overflow_add-stretch c = search rules
-
-bounds-file-at : tie.Need-bounds-file-at
-bounds-file-at c = search rules
-
 overflow_cast-stretch : tie.Need-overflow_cast-stretch
 overflow_cast-stretch c = omega (arith, c.shared_slice_known-2-1.given (c.args.at + 2))
-
-overflow_add-start : tie.Need-overflow_add-start
-overflow_add-start c = search rules
-
-overflow_add-at : tie.Need-overflow_add-at
-overflow_add-at c = search rules
-
-four-requires : tie.Need-four-requires
-four-requires c κs = search rules
-
-overflow_add-end : tie.Need-overflow_add-end
-overflow_add-end c = search rules
 
 returns : tie.Need-returns
 returns c =
@@ -42,12 +21,12 @@ pub entry_at_spec : {M : Type 1} → statement M
 entry_at_spec =
     tie.close
     (tie.spec
-    two-header-requires
-    overflow_add-stretch
-    bounds-file-at
+    (λ c κs. search rules)
+    (λ c. search rules)
+    (λ c. search rules)
     overflow_cast-stretch
-    overflow_add-start
-    overflow_add-at
-    four-requires
-    overflow_add-end
+    (λ c. search rules)
+    (λ c. search rules)
+    (λ c κs. search rules)
+    (λ c. search rules)
     returns)

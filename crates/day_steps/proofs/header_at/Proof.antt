@@ -20,48 +20,15 @@ module _ (c : tie.After-two-size) where
   abbrev at : ℕ
   at = (start c.before).args.at
 
-overflow_sub-file : tie.Need-overflow_sub-file
-overflow_sub-file c = search rules
-
 returns-then-file-at-lt2 : tie.Need-returns-then-file-at-lt2
 returns-then-file-at-lt2 c =
     let s = c.before.before in
     header_few s.args.file.now s.args.at s.requires c.if-file-at-lt2.true
 
-two-size-requires : tie.Need-two-size-requires
-two-size-requires c κs = search rules
-
-overflow_add-start : tie.Need-overflow_add-start
-overflow_add-start c = search rules
-
-overflow_sub-file-2 : tie.Need-overflow_sub-file-2
-overflow_sub-file-2 c = search rules
-
 returns-then-file-start : tie.Need-returns-then-file-start
 returns-then-file-start c =
     let t = c.before in
     header_long (f t) (at t) (start t.before).requires t.two-size.result t.two-size.ensures.0 (omega arith) c.if-file-start.true
-
-overflow_add-end : tie.Need-overflow_add-end
-overflow_add-end c = search rules
-
-slice_bounds-read-count : tie.Need-slice_bounds-read-count
-slice_bounds-read-count c = search rules
-
-slice_bounds-read-start : tie.Need-slice_bounds-read-start
-slice_bounds-read-start c = search rules
-
-slice_bounds-read-end : tie.Need-slice_bounds-read-end
-slice_bounds-read-end c = search rules
-
-read-requires : tie.Need-read-requires
-read-requires c κs = search rules
-
-enum_told-1 : tie.Need-enum_told-1
-enum_told-1 c = search rules
-
-enum_told-in_default : tie.Need-enum_told-in_default
-enum_told-in_default c = search rules
 
 returns-in_default : tie.Need-returns-in_default
 returns-in_default c =
@@ -84,18 +51,18 @@ pub header_at_spec : {M : Type 1} → statement M
 header_at_spec =
     tie.close
     (tie.spec
-    overflow_sub-file
+    (λ c. search rules)
     returns-then-file-at-lt2
-    two-size-requires
-    overflow_add-start
-    overflow_sub-file-2
+    (λ c κs. search rules)
+    (λ c. search rules)
+    (λ c. search rules)
     returns-then-file-start
-    overflow_add-end
-    slice_bounds-read-count
-    slice_bounds-read-start
-    slice_bounds-read-end
-    read-requires
-    enum_told-1
-    enum_told-in_default
+    (λ c. search rules)
+    (λ c. search rules)
+    (λ c. search rules)
+    (λ c. search rules)
+    (λ c κs. search rules)
+    (λ c. search rules)
+    (λ c. search rules)
     returns-in_default
     returns)

@@ -30,15 +30,6 @@ loop-left-init c =
     let a = c.args in
     (c.requires, ([], ahead_none (read_headers a.headers (drop 4 a.file.now))))
 
-header_at-requires : tie.Need-header_at-requires invariant-loop-left decreases-loop-left
-header_at-requires c κs = search rules
-
-enum_known-end : tie.Need-enum_known-end invariant-loop-left decreases-loop-left
-enum_known-end c = search rules
-
-enum_told-1 : tie.Need-enum_told-1 invariant-loop-left decreases-loop-left
-enum_told-1 c = search rules
-
 returns-in_default : tie.Need-returns-in_default invariant-loop-left decreases-loop-left
 returns-in_default c =
     let h = c.before in
@@ -46,12 +37,6 @@ returns-in_default c =
     let a = (start (looped h)).args in
     let s : HeaderStep Bad a.file.now l.at = rw c.in_default.is at h.header_at.ensures in
     l.invariant.1.1 ∙ headers_stop a.file.now l.left l.at (omega arith) l.invariant.1.0 s
-
-overflow_sub-left : tie.Need-overflow_sub-left invariant-loop-left decreases-loop-left
-overflow_sub-left c = search rules
-
-loop-left-smaller : tie.Need-loop-left-smaller invariant-loop-left decreases-loop-left
-loop-left-smaller c = search rules
 
 loop-left-preserved : tie.Need-loop-left-preserved invariant-loop-left decreases-loop-left
 loop-left-preserved c =
@@ -76,11 +61,11 @@ headers_end_spec =
     invariant-loop-left
     decreases-loop-left
     loop-left-init
-    header_at-requires
-    enum_known-end
-    enum_told-1
+    (λ c κs. search rules)
+    (λ c. search rules)
+    (λ c. search rules)
     returns-in_default
-    overflow_sub-left
-    loop-left-smaller
+    (λ c. search rules)
+    (λ c. search rules)
     loop-left-preserved
     returns)

@@ -49,16 +49,10 @@ module _ (c : tie.After-entry_at-e) where
   abbrev at : ℕ
   at = (start c.before).args.at
 
-overflow_sub-file : tie.Need-overflow_sub-file
-overflow_sub-file c = search rules
-
 returns-then-file-at-lt7 : tie.Need-returns-then-file-at-lt7
 returns-then-file-at-lt7 c =
     let s = c.before.before in
     record_few s.args.file.now s.args.headers s.args.at s.requires.0 c.if-file-at-lt7.true
-
-entry_at-e-requires : tie.Need-entry_at-e-requires
-entry_at-e-requires c κs = search rules
 
 returns-then-file-e : tie.Need-returns-then-file-e
 returns-then-file-e c =
@@ -71,26 +65,20 @@ returns-then-headers-e c =
     let t = second.before.before in
     unnamed (f t) (headers t) (at t) (start t.before).requires.0 t.if-file-at-lt7.false t.entry_at-e.result t.entry_at-e.ensures.0 second.if-file-e.false c.if-headers-e.true
 
-returns-then-e-gt64 : tie.Need-returns-then-e-gt64
-returns-then-e-gt64 c =
-    let second = c.before.before.before.before in
-    let t = second.before.before in
-    stretched (f t) (headers t) (at t) (start t.before).requires.0 t.if-file-at-lt7.false t.entry_at-e.result t.entry_at-e.ensures.0 second.if-file-e.false c.if-e-gt64.true
-
 returns : tie.Need-returns
 returns c =
     let third = c.before.before in
     let second = third.before.before in
     let t = second.before.before in
-    good (f t) (headers t) (at t) (start t.before).requires.0 t.if-file-at-lt7.false t.entry_at-e.result t.entry_at-e.ensures.0 second.if-file-e.false t.entry_at-e.ensures.1 third.if-headers-e.false c.if-e-gt64.false
+    good (f t) (headers t) (at t) (start t.before).requires.0 t.if-file-at-lt7.false t.entry_at-e.result t.entry_at-e.ensures.0 second.if-file-e.false t.entry_at-e.ensures.1 third.if-headers-e.false (omega arith)
 
 pub record_at_spec : {M : Type 1} → statement M
 record_at_spec =
     tie.close (tie.spec
-    overflow_sub-file
+    (λ c. search rules)
     returns-then-file-at-lt7
-    entry_at-e-requires
+    (λ c κs. search rules)
     returns-then-file-e
     returns-then-headers-e
-    returns-then-e-gt64
+    (λ c. let second = c.before.before.before.before in let t = second.before.before in stretched (f t) (headers t) (at t) (start t.before).requires.0 t.if-file-at-lt7.false t.entry_at-e.result t.entry_at-e.ensures.0 second.if-file-e.false (omega arith))
     returns)

@@ -41,15 +41,6 @@ module _ (c : tie.After-size-n) where
   sized : Sized c.size-n.result (length (write_day all.day))
   sized = subst (Sized c.size-n.result) (sym all.size) c.size-n.ensures
 
-headers_fit-requires : tie.Need-headers_fit-requires
-headers_fit-requires c κs = search rules
-
-records_fit-requires : tie.Need-records_fit-requires
-records_fit-requires c κs = search rules
-
-size-n-requires : tie.Need-size-n-requires
-size-n-requires c κs = search rules
-
 returns-then-n-gt65536 : tie.Need-returns-then-n-gt65536
 returns-then-n-gt65536 c = let s = c.before in settled_4 _ (begun s).args.room (all s).day (all s).is s.size-n.result (sized s) c.if-n-gt65536.true
 
@@ -76,9 +67,9 @@ pub settled_spec : {M : Type 1} → statement M
 settled_spec =
     tie.close
     (tie.spec
-    headers_fit-requires
-    records_fit-requires
-    size-n-requires
+    (λ c κs. search rules)
+    (λ c κs. search rules)
+    (λ c κs. search rules)
     returns-then-n-gt65536
     returns-then-room-n
     returns-then-records_fit

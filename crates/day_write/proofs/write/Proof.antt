@@ -24,12 +24,12 @@ abbrev start : tie.After-settled-number → tie.Start
 start c = (second (fourth (sixth c))).before.before
 
 -- 0 is settled
-module _ (c : tie.Else-number-ne0) where
+module _ (c : tie.After-put_four-arg-1) where
   abbrev s : tie.Start
-  s = start c.before
+  s = start c.before.before
 
   fits : Accepted s.args.lengths.now s.args.headers.now s.args.numbers.now s.args.stretches.now s.args.sizes.now s.args.sealed.now (length s.args.out.now)
-  fits = accepted s.args.lengths.now s.args.headers.now s.args.numbers.now s.args.stretches.now s.args.sizes.now s.args.sealed.now c.settled-number.result (length s.args.out.now) c.settled-number.ensures c.if-number-ne0.false
+  fits = accepted s.args.lengths.now s.args.headers.now s.args.numbers.now s.args.stretches.now s.args.sizes.now s.args.sealed.now c.settled-number.result (length s.args.out.now) c.settled-number.ensures (omega arith)
 
   heads : length (headers_written (headers_of s.args.lengths.now s.args.headers.now)) ≡ 2 * length s.args.lengths.now + length s.args.headers.now
   heads = heads_long s.args.lengths.now s.args.headers.now s.args.numbers.now s.args.stretches.now s.args.sizes.now s.args.sealed.now fits.all
@@ -57,8 +57,8 @@ abbrev whole_six : tie.After-slice_known-7-1 → tie.After-put_places
 whole_six c = c.before.before
 
 -- the parts, each after the one before
-abbrev one : tie.After-put_four → tie.Else-number-ne0
-one c = c.before.before
+abbrev one : tie.After-put_four → tie.After-put_four-arg-1
+one c = c.before
 
 abbrev two : tie.After-put_headers-end → tie.After-put_four
 two c = whole_one c.before.before
@@ -84,7 +84,7 @@ module _ (c : tie.After-put_records-index) where
   abbrev headed : tie.After-put_headers-end
   headed = three (four c)
 
-  abbrev first : tie.Else-number-ne0
+  abbrev first : tie.After-put_four-arg-1
   first = one (two headed)
 
   after_records : (c.put_records-index.result ≡ 8 + 2 * length (s first).args.lengths.now + length (s first).args.headers.now + 7 * length (s first).args.sizes.now + length (s first).args.sealed.now) × (length c.put_records-index.new.out ≡ length (s first).args.out.now)
@@ -93,16 +93,8 @@ module _ (c : tie.After-put_records-index) where
     c.put_records-index.auto.out ∙ (four c).put_four-2.auto.out ∙ (after_heads headed).1,
   )
 
-settled-number-requires : tie.Need-settled-number-requires
-settled-number-requires c κs = search rules
-
-returns-then-number-ne0 : tie.Need-returns-then-number-ne0
-returns-then-number-ne0 c =
-    let b = (start c.before).args in
-    write_refused b.lengths.now b.headers.now b.numbers.now b.stretches.now b.sizes.now b.sealed.now c.settled-number.result b.out.now c.settled-number.ensures c.if-number-ne0.true
-
 put_four-requires : tie.Need-put_four-requires
-put_four-requires c κs = omega (arith, (fits c.before).has_room)
+put_four-requires c κs = omega (arith, (fits c).has_room)
 
 put_headers-end-requires : tie.Need-put_headers-end-requires
 put_headers-end-requires c κs =
@@ -144,12 +136,6 @@ put_places-requires c κs =
       omega (arith, (fits f).has_room, (after_records r).0, (after_records r).1, d.put_four-3.auto.out),
     )
 
-size-length-requires : tie.Need-size-length-requires
-size-length-requires c κs = search rules
-
-shape_of-out : tie.Need-shape_of-out
-shape_of-out c = search rules
-
 returns : tie.Need-returns
 returns c =
     let p = whole_six c.before in
@@ -164,14 +150,14 @@ returns c =
     h.put_headers-end.result r.put_records-index.result (fits f).has_room
     b.put_four.ensures b.put_four.auto.out h.put_headers-end.ensures.0 h.put_headers-end.ensures.1 h.put_headers-end.auto.out e.put_four-2.ensures e.put_four-2.auto.out
     r.put_records-index.ensures.0 r.put_records-index.ensures.1 r.put_records-index.auto.out d.put_four-3.ensures d.put_four-3.auto.out p.put_places.ensures p.put_places.auto.out
-    (fits f).short f.settled-number.result c.size-length.result f.if-number-ne0.false c.size-length.ensures
+    (fits f).short f.settled-number.result c.size-length.result (omega arith) c.size-length.ensures
 
 pub write_spec : {M : Type 1} → statement M
 write_spec =
     tie.close
     (tie.spec
-    settled-number-requires
-    returns-then-number-ne0
+    (λ c κs. search rules)
+    (λ c. let b = c.args in write_refused b.lengths.now b.headers.now b.numbers.now b.stretches.now b.sizes.now b.sealed.now c.settled-number.result b.out.now c.settled-number.ensures (λ e. omega arith))
     put_four-requires
     put_headers-end-requires
     put_four-requires-2
@@ -180,6 +166,6 @@ write_spec =
     put_four-requires-3
     overflow_add-index
     put_places-requires
-    size-length-requires
-    shape_of-out
+    (λ c κs. search rules)
+    (λ c. search rules)
     returns)

@@ -6,9 +6,6 @@ use Rattle.halves.proofs.ByteHalves.{half_bytes_even, half_bytes_odd}
 use Rattle.halves.proofs.half_byte.Statement.{statement}
 use Rattle.halves.proofs.half_byte.Tie as tie
 
-bounds-s-j : tie.Need-bounds-s-j
-bounds-s-j c = search rules
-
 returns-then-j-eq0 : tie.Need-returns-then-j-eq0
 returns-then-j-eq0 c = sym (half_bytes_even c.args.s.now c.args.j c.if-j-eq0.true)
 
@@ -17,6 +14,6 @@ returns c = sym (half_bytes_odd c.args.s.now c.args.j (omega (arith, c.if-j-eq0.
 
 pub half_byte_spec : {M : Type 1} → statement M
 half_byte_spec = tie.close (tie.spec
-    bounds-s-j
+    (λ c. search rules)
     returns-then-j-eq0
     returns)

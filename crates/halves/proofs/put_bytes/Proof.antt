@@ -29,33 +29,6 @@ start c = c.before.before.before
 loop-i-init : tie.Need-loop-i-init invariant-loop-i decreases-loop-i
 loop-i-init c = (omega arith, record { long = sym (long c.before.before); same = refl }, refl)
 
-overflow_mul-i : tie.Need-overflow_mul-i invariant-loop-i decreases-loop-i
-overflow_mul-i c = search rules
-
-bounds-h-i : tie.Need-bounds-h-i invariant-loop-i decreases-loop-i
-bounds-h-i c = search rules
-
-overflow_mul-i-in-loop-i : tie.Need-overflow_mul-i-in-loop-i invariant-loop-i decreases-loop-i
-overflow_mul-i-in-loop-i c = search rules
-
-overflow_add-i : tie.Need-overflow_add-i invariant-loop-i decreases-loop-i
-overflow_add-i c = search rules
-
-bounds-h-i-in-loop-i : tie.Need-bounds-h-i-in-loop-i invariant-loop-i decreases-loop-i
-bounds-h-i-in-loop-i c = search rules
-
-byte_of-b-requires : tie.Need-byte_of-b-requires invariant-loop-i decreases-loop-i
-byte_of-b-requires c κs = search rules
-
-bounds-s-i : tie.Need-bounds-s-i invariant-loop-i decreases-loop-i
-bounds-s-i c = search rules
-
-overflow_add-i-in-loop-i : tie.Need-overflow_add-i-in-loop-i invariant-loop-i decreases-loop-i
-overflow_add-i-in-loop-i c = search rules
-
-loop-i-smaller : tie.Need-loop-i-smaller invariant-loop-i decreases-loop-i
-loop-i-smaller c = search rules
-
 loop-i-preserved : tie.Need-loop-i-preserved invariant-loop-i decreases-loop-i
 loop-i-preserved c =
     let l = (at_loop c).loop-i in
@@ -78,15 +51,15 @@ put_bytes_spec =
     invariant-loop-i
     decreases-loop-i
     loop-i-init
-    overflow_mul-i
-    bounds-h-i
-    overflow_mul-i-in-loop-i
-    overflow_add-i
-    bounds-h-i-in-loop-i
-    byte_of-b-requires
-    bounds-s-i
-    overflow_add-i-in-loop-i
-    loop-i-smaller
+    (λ c. search rules)
+    (λ c. search rules)
+    (λ c. search rules)
+    (λ c. search rules)
+    (λ c. search rules)
+    (λ c κs. search rules)
+    (λ c. search rules)
+    (λ c. search rules)
+    (λ c. search rules)
     loop-i-preserved
     shape_of-s
     returns)

@@ -170,12 +170,6 @@ loop-left-preserved c =
       c.add_string-more.ensures.0,
     )
 
-returns-then-at-h : tie.Need-returns-then-at-h invariant-loop-left decreases-loop-left
-returns-then-at-h c =
-    let s = c.before.before in
-    let l = s.loop-left in
-    sym (so_far_lem s ∙ over (F s) (h s) (so s) l.at l.i l.left c.loop-left-test.false (omega arith))
-
 hashed-requires : tie.Need-hashed-requires invariant-loop-left decreases-loop-left
 hashed-requires c κs = c.loop-left.invariant.5
 
@@ -186,7 +180,7 @@ returns c =
     let l = s.loop-left in
     c.hashed.ensures
     ∙ ap (λ (K : figure6.Key). so_far K l.g l.hashed) (is_base s)
-    ∙ sym (so_far_lem s ∙ good (F s) (h s) (so s) l.at l.i l.left e.loop-left-test.false e.if-at-h.false (so_short (k0 (K s)) l.g l.hashed.waiting l.hashed.total))
+    ∙ sym (so_far_lem s ∙ good (F s) (h s) (so s) l.at l.i l.left e.loop-left-test.false (omega arith) (so_short (k0 (K s)) l.g l.hashed.waiting l.hashed.total))
 
 pub delta_spec : {M : Type 1} → statement M
 delta_spec =
@@ -217,6 +211,6 @@ delta_spec =
     (λ c. search rules)
     (λ c. search rules)
     loop-left-preserved
-    returns-then-at-h
+    (λ c. let s = c.before.before in let l = s.loop-left in sym (so_far_lem s ∙ over (F s) (h s) (so s) l.at l.i l.left c.loop-left-test.false (omega arith)))
     hashed-requires
     returns)

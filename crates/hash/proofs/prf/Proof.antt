@@ -48,20 +48,8 @@ is_next c =
 is_base : (c : tie.At-loop-at invariant-loop-at decreases-loop-at) → base (taken c).base-b.result ≡ blocks (start c).args.k
 is_base c = has_blocks (start c).args.k _ (start c).well_formed.0 (taken c).base-b.result (taken c).base-b.ensures
 
-base-b-requires : tie.Need-base-b-requires invariant-loop-at decreases-loop-at
-base-b-requires c κs = search rules
-
-multiples-m-requires : tie.Need-multiples-m-requires invariant-loop-at decreases-loop-at
-multiples-m-requires c κs = search rules
-
 loop-at-init : tie.Need-loop-at-init invariant-loop-at decreases-loop-at
 loop-at-init c = let a = c.args in filled_none (F c.base-b.result a.delta) a.out.now
-
-number-n-requires : tie.Need-number-n-requires invariant-loop-at decreases-loop-at
-number-n-requires c κs = search rules
-
-xor-x-requires : tie.Need-xor-x-requires invariant-loop-at decreases-loop-at
-xor-x-requires c κs = search rules
 
 e-y-requires : tie.Need-e-y-requires invariant-loop-at decreases-loop-at
 e-y-requires c κs =
@@ -69,27 +57,6 @@ e-y-requires c κs =
     let b = (taken l).base-b in
     let m = l.multiples-m in
     (omega arith, of_j (start l).args.k b.result m.result (is_base l) m.ensures)
-
-slice_bounds-put_front-count : tie.Need-slice_bounds-put_front-count invariant-loop-at decreases-loop-at
-slice_bounds-put_front-count c = search rules
-
-slice_bounds-put_front-start : tie.Need-slice_bounds-put_front-start invariant-loop-at decreases-loop-at
-slice_bounds-put_front-start c = search rules
-
-slice_bounds-put_front-end : tie.Need-slice_bounds-put_front-end invariant-loop-at decreases-loop-at
-slice_bounds-put_front-end c = search rules
-
-put_front-requires : tie.Need-put_front-requires invariant-loop-at decreases-loop-at
-put_front-requires c κs = search rules
-
-overflow_add-at : tie.Need-overflow_add-at invariant-loop-at decreases-loop-at
-overflow_add-at c = search rules
-
-overflow_add-i : tie.Need-overflow_add-i invariant-loop-at decreases-loop-at
-overflow_add-i c = search rules
-
-loop-at-smaller : tie.Need-loop-at-smaller invariant-loop-at decreases-loop-at
-loop-at-smaller c = search rules
 
 loop-at-preserved : tie.Need-loop-at-preserved invariant-loop-at decreases-loop-at
 loop-at-preserved c =
@@ -114,19 +81,19 @@ prf_spec =
     (tie.spec
     invariant-loop-at
     decreases-loop-at
-    base-b-requires
-    multiples-m-requires
+    (λ c κs. search rules)
+    (λ c κs. search rules)
     loop-at-init
-    number-n-requires
-    xor-x-requires
+    (λ c κs. search rules)
+    (λ c κs. search rules)
     e-y-requires
-    slice_bounds-put_front-count
-    slice_bounds-put_front-start
-    slice_bounds-put_front-end
-    put_front-requires
-    overflow_add-at
-    overflow_add-i
-    loop-at-smaller
+    (λ c. search rules)
+    (λ c. search rules)
+    (λ c. search rules)
+    (λ c κs. search rules)
+    (λ c. search rules)
+    (λ c. search rules)
+    (λ c. search rules)
     loop-at-preserved
     shape_of-out
     returns)

@@ -19,9 +19,6 @@ decreases-loop-i s₀ y n i₀ s i = n - i
 abbrev start : tie.At-loop-i invariant-loop-i decreases-loop-i → tie.Start invariant-loop-i decreases-loop-i
 start c = c.before.before.before
 
-least-n-requires : tie.Need-least-n-requires invariant-loop-i decreases-loop-i
-least-n-requires c κs = search rules
-
 loop-i-init : tie.Need-loop-i-init invariant-loop-i decreases-loop-i
 loop-i-init c = (omega arith, refl, refl)
 
@@ -30,12 +27,6 @@ bounds-y-i c = omega (arith, c.least-n.ensures)
 
 bounds-s-i : tie.Need-bounds-s-i invariant-loop-i decreases-loop-i
 bounds-s-i c = omega (arith, c.least-n.ensures, c.loop-i.invariant.2)
-
-overflow_add-i : tie.Need-overflow_add-i invariant-loop-i decreases-loop-i
-overflow_add-i c = search rules
-
-loop-i-smaller : tie.Need-loop-i-smaller invariant-loop-i decreases-loop-i
-loop-i-smaller c = search rules
 
 loop-i-preserved : tie.Need-loop-i-preserved invariant-loop-i decreases-loop-i
 loop-i-preserved c =
@@ -65,12 +56,12 @@ put_front_spec =
     (tie.spec
     invariant-loop-i
     decreases-loop-i
-    least-n-requires
+    (λ c κs. search rules)
     loop-i-init
     bounds-y-i
     bounds-s-i
-    overflow_add-i
-    loop-i-smaller
+    (λ c. search rules)
+    (λ c. search rules)
     loop-i-preserved
     shape_of-s
     returns)

@@ -38,34 +38,18 @@ entered c = c.before.before.before.before
 returns-then-h-lt1 : tie.Need-returns-then-h-lt1
 returns-then-h-lt1 c = (no_byte c.args.h.now c.if-h-lt1.true, tt)
 
-bounds-h-0 : tie.Need-bounds-h-0
-bounds-h-0 c = search rules
-
-as_number-n-requires : tie.Need-as_number-n-requires
-as_number-n-requires c κs = search rules
-
-returns-then-n-lt1 : tie.Need-returns-then-n-lt1
-returns-then-n-lt1 c =
-    let n = c.as_number-n in
-    (zero_strings (entered c.before).args.h.now n.result n.ensures.0 (omega arith) c.if-n-lt1.true, tt)
-
-returns-then-n-gt16 : tie.Need-returns-then-n-gt16
-returns-then-n-gt16 c =
-    let n = c.as_number-n in
-    (too_many (entered c.before.before).args.h.now n.result n.ensures.0 (omega arith) c.if-n-gt16.true, tt)
-
 returns : tie.Need-returns
 returns c =
     let n = c.as_number-n in
-    (right (entered c.before.before).args.h.now n.result n.ensures.0 (omega arith) c.if-n-lt1.false c.if-n-gt16.false, (c.if-n-gt16.false, omega arith))
+    (right (entered c.before.before).args.h.now n.result n.ensures.0 (omega arith) (omega arith) (omega arith), (omega arith, omega arith))
 
 pub count_spec : {M : Type 1} → statement M
 count_spec =
     tie.close
     (tie.spec
     returns-then-h-lt1
-    bounds-h-0
-    as_number-n-requires
-    returns-then-n-lt1
-    returns-then-n-gt16
+    (λ c. search rules)
+    (λ c κs. search rules)
+    (λ c. let n = c.as_number-n in (zero_strings (entered c.before).args.h.now n.result n.ensures.0 (omega arith) (omega arith), tt))
+    (λ c. let n = c.as_number-n in (too_many (entered c.before.before).args.h.now n.result n.ensures.0 (omega arith) (omega arith), tt))
     returns)

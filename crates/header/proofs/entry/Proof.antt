@@ -54,74 +54,31 @@ module _ (c : tie.After-as_number-low) where
 returns-then-h-at : tie.Need-returns-then-h-at
 returns-then-h-at c = (few c.args.h.now c.args.at (omega arith), tt)
 
-overflow_sub-h : tie.Need-overflow_sub-h
-overflow_sub-h c = search rules
-
 returns-then-h-at-lt2 : tie.Need-returns-then-h-at-lt2
 returns-then-h-at-lt2 c = let a = c.args in (few a.h.now a.at (omega arith), tt)
-
-bounds-h-at : tie.Need-bounds-h-at
-bounds-h-at c = search rules
-
-as_number-high-requires : tie.Need-as_number-high-requires
-as_number-high-requires c κs = search rules
-
-overflow_add-at : tie.Need-overflow_add-at
-overflow_add-at c = search rules
-
-bounds-h-at-2 : tie.Need-bounds-h-at-2
-bounds-h-at-2 c = search rules
-
-as_number-low-requires : tie.Need-as_number-low-requires
-as_number-low-requires c κs = search rules
-
-overflow_mul-size : tie.Need-overflow_mul-size
-overflow_mul-size c = search rules
-
-overflow_add-size : tie.Need-overflow_add-size
-overflow_add-size c = search rules
-
-returns-then-size-gt1024 : tie.Need-returns-then-size-gt1024
-returns-then-size-gt1024 c =
-    let l = c.before in
-    (long (h l) (at l) (size l) (sized l) (omega arith) c.if-size-gt1024.true, tt)
-
-overflow_add-start : tie.Need-overflow_add-start
-overflow_add-start c = search rules
-
-overflow_sub-h-2 : tie.Need-overflow_sub-h-2
-overflow_sub-h-2 c = search rules
-
-returns-then-h-start : tie.Need-returns-then-h-start
-returns-then-h-start c =
-    let l = c.before.before in
-    (past (h l) (at l) (size l) (sized l) (omega arith) c.if-size-gt1024.false (omega arith), tt)
-
-overflow_add-end : tie.Need-overflow_add-end
-overflow_add-end c = search rules
 
 returns : tie.Need-returns
 returns c =
     let l = c.before.before in
-    (whole (h l) (at l) (size l) (sized l) (omega arith) c.if-size-gt1024.false (omega arith), (omega arith, omega arith, omega arith))
+    (whole (h l) (at l) (size l) (sized l) (omega arith) (omega arith) (omega arith), (omega arith, omega arith, omega arith))
 
 pub entry_spec : {M : Type 1} → statement M
 entry_spec =
     tie.close
     (tie.spec
     returns-then-h-at
-    overflow_sub-h
+    (λ c. search rules)
     returns-then-h-at-lt2
-    bounds-h-at
-    as_number-high-requires
-    overflow_add-at
-    bounds-h-at-2
-    as_number-low-requires
-    overflow_mul-size
-    overflow_add-size
-    returns-then-size-gt1024
-    overflow_add-start
-    overflow_sub-h-2
-    returns-then-h-start
-    overflow_add-end
+    (λ c. search rules)
+    (λ c κs. search rules)
+    (λ c. search rules)
+    (λ c. search rules)
+    (λ c κs. search rules)
+    (λ c. search rules)
+    (λ c. search rules)
+    (λ c. let l = c.before in (long (h l) (at l) (size l) (sized l) (omega arith) (omega arith), tt))
+    (λ c. search rules)
+    (λ c. search rules)
+    (λ c. let l = c.before.before in (past (h l) (at l) (size l) (sized l) (omega arith) (omega arith) (omega arith), tt))
+    (λ c. search rules)
     returns)

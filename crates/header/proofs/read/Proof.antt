@@ -91,15 +91,6 @@ module _ (c : tie.In-Strings invariant-loop-left decreases-loop-left) where
   is_few : Few (Strings n) h
   is_few = rw c.in-Strings.is at c.count.ensures.1
 
-count-requires : tie.Need-count-requires invariant-loop-left decreases-loop-left
-count-requires c κs = search rules
-
-enum_known-n : tie.Need-enum_known-n invariant-loop-left decreases-loop-left
-enum_known-n c = search rules
-
-enum_told-1 : tie.Need-enum_told-1 invariant-loop-left decreases-loop-left
-enum_told-1 c = search rules
-
 returns-in_default : tie.Need-returns-in_default invariant-loop-left decreases-loop-left
 returns-in_default c =
     let r = c.before in
@@ -110,21 +101,6 @@ loop-left-init c =
     let r = c in
     ((is_few r).1, omega arith, begun (h r) (n r) (is_count r))
 
-entry-requires : tie.Need-entry-requires invariant-loop-left decreases-loop-left
-entry-requires c κs = search rules
-
-enum_known-end : tie.Need-enum_known-end invariant-loop-left decreases-loop-left
-enum_known-end c = search rules
-
-enum_told-in_default-entry : tie.Need-enum_told-in_default-entry invariant-loop-left decreases-loop-left
-enum_told-in_default-entry c = search rules
-
-overflow_sub-k : tie.Need-overflow_sub-k invariant-loop-left decreases-loop-left
-overflow_sub-k c = search rules
-
-overflow_add-k : tie.Need-overflow_add-k invariant-loop-left decreases-loop-left
-overflow_add-k c = search rules
-
 returns-in_default-entry : tie.Need-returns-in_default-entry invariant-loop-left decreases-loop-left
 returns-in_default-entry c =
     let p = c.before in
@@ -132,12 +108,6 @@ returns-in_default-entry c =
     let r = counted at_loop in
     let l = at_loop.loop-left in
     sym (l.invariant.2 ∙ stop (h r) (n r) l.at l.left (omega arith) (omega arith) (rw c.in_default-entry.is at p.entry.ensures.0))
-
-overflow_sub-left : tie.Need-overflow_sub-left invariant-loop-left decreases-loop-left
-overflow_sub-left c = search rules
-
-loop-left-smaller : tie.Need-loop-left-smaller invariant-loop-left decreases-loop-left
-loop-left-smaller c = search rules
 
 loop-left-preserved : tie.Need-loop-left-preserved invariant-loop-left decreases-loop-left
 loop-left-preserved c =
@@ -151,17 +121,11 @@ loop-left-preserved c =
     let inside : Within (At s e) (h r) = rw place.is at p.entry.ensures.1 in
     (omega arith, omega arith, l.invariant.2 ∙ turn (h r) (n r) l.at l.left (omega arith) (omega arith) s e (rw place.is at p.entry.ensures.0))
 
-returns-then-at-h : tie.Need-returns-then-at-h invariant-loop-left decreases-loop-left
-returns-then-at-h c =
-    let r = counted c.before.before in
-    let l = c.loop-left in
-    sym (l.invariant.2 ∙ over (h r) (n r) l.at l.left (omega arith) (omega arith))
-
 returns : tie.Need-returns invariant-loop-left decreases-loop-left
 returns c =
     let r = counted c.before.before in
     let l = c.loop-left in
-    sym (l.invariant.2 ∙ good (h r) (n r) l.at l.left (omega arith) c.if-at-h.false)
+    sym (l.invariant.2 ∙ good (h r) (n r) l.at l.left (omega arith) (omega arith))
 
 pub read_spec : {M : Type 1} → statement M
 read_spec =
@@ -169,19 +133,19 @@ read_spec =
     (tie.spec
     invariant-loop-left
     decreases-loop-left
-    count-requires
-    enum_known-n
-    enum_told-1
+    (λ c κs. search rules)
+    (λ c. search rules)
+    (λ c. search rules)
     returns-in_default
     loop-left-init
-    entry-requires
-    enum_known-end
-    enum_told-in_default-entry
-    overflow_sub-k
-    overflow_add-k
+    (λ c κs. search rules)
+    (λ c. search rules)
+    (λ c. search rules)
+    (λ c. search rules)
+    (λ c. search rules)
     returns-in_default-entry
-    overflow_sub-left
-    loop-left-smaller
+    (λ c. search rules)
+    (λ c. search rules)
     loop-left-preserved
-    returns-then-at-h
+    (λ c. let r = counted c.before.before in let l = c.loop-left in sym (l.invariant.2 ∙ over (h r) (n r) l.at l.left (omega arith) (omega arith)))
     returns)

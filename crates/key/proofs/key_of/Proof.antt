@@ -10,18 +10,6 @@ use Rattle.paper.specs.Figure6.{key_of}
 use Rattle.key.proofs.key_of.Statement.{statement}
 use Rattle.key.proofs.key_of.Tie as tie
 
-load-i-requires : tie.Need-load-i-requires
-load-i-requires c κs = search rules
-
-load-j-requires : tie.Need-load-j-requires
-load-j-requires c κs = search rules
-
-load-l-requires : tie.Need-load-l-requires
-load-l-requires c κs = search rules
-
-record_of-requires : tie.Need-record_of-requires
-record_of-requires c κs = search rules
-
 returns : tie.Need-returns
 unfolding key_of
 returns c =
@@ -36,8 +24,8 @@ returns c =
 pub key_of_spec : {M : Type 1} → statement M
 key_of_spec =
     tie.close (tie.spec
-    load-i-requires
-    load-j-requires
-    load-l-requires
-    record_of-requires
+    (λ c κs. search rules)
+    (λ c κs. search rules)
+    (λ c κs. search rules)
+    (λ c κs. search rules)
     returns)

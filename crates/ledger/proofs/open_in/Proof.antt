@@ -68,31 +68,13 @@ opened c = (returned c).before
 abbrev accepted : tie.After-read_text → tie.Else-answer-ne0
 accepted c = c.before.before
 
-open-answer-requires : tie.Need-open-answer-requires
-open-answer-requires c κs = search rules
-
-shape_of-out-then-answer-ne0 : tie.Need-shape_of-out-then-answer-ne0
-shape_of-out-then-answer-ne0 c = search rules
-
 returns-then-answer-ne0 : tie.Need-returns-then-answer-ne0
 returns-then-answer-ne0 c =
     let o = opened c.before in
     no_text (key o) (header o) (t o) (sealed o) o.open-answer.result (last o) (out o) (start o).requires.1 o.open-answer.ensures c.if-answer-ne0.true
 
-slice_bounds-read_text-count : tie.Need-slice_bounds-read_text-count
-slice_bounds-read_text-count c = search rules
-
-slice_bounds-read_text-start : tie.Need-slice_bounds-read_text-start
-slice_bounds-read_text-start c = search rules
-
 slice_bounds-read_text-end : tie.Need-slice_bounds-read_text-end
 slice_bounds-read_text-end c = inside (opened c.before) c.if-answer-ne0.false
-
-read_text-requires : tie.Need-read_text-requires
-read_text-requires c κs = search rules
-
-shape_of-out : tie.Need-shape_of-out
-shape_of-out c = search rules
 
 returns : tie.Need-returns
 returns c =
@@ -107,12 +89,12 @@ pub open_in_spec : {M : Type 1} → statement M
 open_in_spec =
     tie.close
     (tie.spec
-    open-answer-requires
-    shape_of-out-then-answer-ne0
+    (λ c κs. search rules)
+    (λ c. search rules)
     returns-then-answer-ne0
-    slice_bounds-read_text-count
-    slice_bounds-read_text-start
+    (λ c. search rules)
+    (λ c. search rules)
     slice_bounds-read_text-end
-    read_text-requires
-    shape_of-out
+    (λ c κs. search rules)
+    (λ c. search rules)
     returns)

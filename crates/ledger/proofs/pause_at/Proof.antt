@@ -25,30 +25,6 @@ low c = below_of 256 (start c).args.file.now (λ i p. omega (arith, c.shared_sli
 there : (c : tie.After-find-f) → Stands (start c).args.file.now (start c).args.records (start c).args.k
 there c = let a = (start c).args in stands a.file.now (low c) a.records a.k (start c).requires.1 (start c).requires.2
 
-find-f-requires : tie.Need-find-f-requires
-find-f-requires c κs = search rules
-
-slice_bounds-pause_of-count : tie.Need-slice_bounds-pause_of-count
-slice_bounds-pause_of-count c = search rules
-
-slice_bounds-pause_of-start : tie.Need-slice_bounds-pause_of-start
-slice_bounds-pause_of-start c = search rules
-
-slice_bounds-pause_of-end : tie.Need-slice_bounds-pause_of-end
-slice_bounds-pause_of-end c = search rules
-
-slice_bounds-pause_of-count-2 : tie.Need-slice_bounds-pause_of-count-2
-slice_bounds-pause_of-count-2 c = search rules
-
-slice_bounds-pause_of-start-2 : tie.Need-slice_bounds-pause_of-start-2
-slice_bounds-pause_of-start-2 c = search rules
-
-slice_bounds-pause_of-end-2 : tie.Need-slice_bounds-pause_of-end-2
-slice_bounds-pause_of-end-2 c = search rules
-
-pause_of-requires : tie.Need-pause_of-requires
-pause_of-requires c κs = search rules
-
 returns : tie.Need-returns
 returns c =
     let f = found c.before in
@@ -60,12 +36,12 @@ pub pause_at_spec : {M : Type 1} → statement M
 pause_at_spec =
     tie.close
     (tie.spec
-    find-f-requires
-    slice_bounds-pause_of-count
-    slice_bounds-pause_of-start
-    slice_bounds-pause_of-end
-    slice_bounds-pause_of-count-2
-    slice_bounds-pause_of-start-2
-    slice_bounds-pause_of-end-2
-    pause_of-requires
+    (λ c κs. search rules)
+    (λ c. search rules)
+    (λ c. search rules)
+    (λ c. search rules)
+    (λ c. search rules)
+    (λ c. search rules)
+    (λ c. search rules)
+    (λ c κs. search rules)
     returns)

@@ -45,18 +45,6 @@ module _ (c : tie.In-Is) where
   is : told.Is r ≡ reported_as (key told_it) (o told_it)
   is = sym c.in-Is.is ∙ told_it.reported.ensures
 
-reported-requires : tie.Need-reported-requires
-reported-requires c κs = search rules
-
-enum_known-number : tie.Need-enum_known-number
-enum_known-number c = search rules
-
-enum_known-r : tie.Need-enum_known-r
-enum_known-r c = search rules
-
-line_length-length-requires : tie.Need-line_length-length-requires
-line_length-length-requires c κs = search rules
-
 returns-then-out-length : tie.Need-returns-then-out-length
 unfolding reporting
 returns-then-out-length c =
@@ -75,9 +63,6 @@ returns-in-Refused c =
     let u = n.before in
     refusal line_of (key u) (out u) (o u) n.in-Refused.number (sym n.in-Refused.is ∙ u.reported.ensures)
 
-shape_of-out : tie.Need-shape_of-out
-shape_of-out c = search rules
-
 returns-else-out-length : tie.Need-returns-else-out-length
 unfolding reporting
 returns-else-out-length c =
@@ -92,12 +77,12 @@ pub report_spec : {M : Type 1} → statement M
 report_spec =
     tie.close
     (tie.spec
-    reported-requires
-    enum_known-number
-    enum_known-r
-    line_length-length-requires
+    (λ c κs. search rules)
+    (λ c. search rules)
+    (λ c. search rules)
+    (λ c κs. search rules)
     returns-then-out-length
     put_line-requires
     returns-in-Refused
-    shape_of-out
+    (λ c. search rules)
     returns-else-out-length)

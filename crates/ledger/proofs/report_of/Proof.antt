@@ -6,18 +6,12 @@ use Rattle.mean.specs.Reports.{with_mean}
 use Rattle.ledger.proofs.report_of.Statement.{statement}
 use Rattle.ledger.proofs.report_of.Tie as tie
 
-totals-t-requires : tie.Need-totals-t-requires
-totals-t-requires c κs = search rules
-
-with_mean-requires : tie.Need-with_mean-requires
-with_mean-requires c κs = search rules
-
 returns : tie.Need-returns
 unfolding report_of
 returns c = c.with_mean.ensures ∙ ap with_mean c.totals-t.ensures
 
 pub report_of_spec : {M : Type 1} → statement M
 report_of_spec = tie.close (tie.spec
-    totals-t-requires
-    with_mean-requires
+    (λ c κs. search rules)
+    (λ c κs. search rules)
     returns)

@@ -44,15 +44,6 @@ module _ (c : tie.In-Day) where
   reads : checked.Day headers records first ≡ checked_as o
   reads = sym found.in-Day.is ∙ checked_file.check.ensures
 
-check-requires : tie.Need-check-requires
-check-requires c κs = search rules
-
-enum_known-headers : tie.Need-enum_known-headers
-enum_known-headers c = search rules
-
-enum_told-1 : tie.Need-enum_told-1
-enum_told-1 c = search rules
-
 returns-in_default : tie.Need-returns-in_default
 returns-in_default c =
     let h = c.before in
@@ -73,9 +64,9 @@ returns c =
 
 pub reported_spec : {M : Type 1} → statement M
 reported_spec = tie.close (tie.spec
-    check-requires
-    enum_known-headers
-    enum_told-1
+    (λ c κs. search rules)
+    (λ c. search rules)
+    (λ c. search rules)
     returns-in_default
     returns-then-key-ne48
     report_of-requires

@@ -65,12 +65,6 @@ added-more-requires c κs =
     let a = (start l).args in
     room a.key.now a.file.now (low l) l.loop-k.k l.loop-k.t l.loop-k.invariant.1 (inside i) c.pause_at-pause.result c.pause_at-pause.ensures
 
-overflow_add-k : tie.Need-overflow_add-k invariant-loop-k decreases-loop-k
-overflow_add-k c = search rules
-
-loop-k-smaller : tie.Need-loop-k-smaller invariant-loop-k decreases-loop-k
-loop-k-smaller c = search rules
-
 loop-k-preserved : tie.Need-loop-k-preserved invariant-loop-k decreases-loop-k
 loop-k-preserved c =
     let i = asked c.before in
@@ -91,7 +85,7 @@ totals_spec =
     loop-k-init
     pause_at-pause-requires
     added-more-requires
-    overflow_add-k
-    loop-k-smaller
+    (λ c. search rules)
+    (λ c. search rules)
     loop-k-preserved
     returns)

@@ -28,9 +28,6 @@ loop-left-init c = omega arith
 overflow_add-count : tie.Need-overflow_add-count invariant-loop-left decreases-loop-left
 overflow_add-count c = omega (arith, few c.before)
 
-loop-left-smaller : tie.Need-loop-left-smaller invariant-loop-left decreases-loop-left
-loop-left-smaller c = search rules
-
 loop-left-preserved : tie.Need-loop-left-preserved invariant-loop-left decreases-loop-left
 loop-left-preserved c =
     let l = c.loop-left in
@@ -49,6 +46,6 @@ decimal_length_spec =
     decreases-loop-left
     loop-left-init
     overflow_add-count
-    loop-left-smaller
+    (λ c. search rules)
     loop-left-preserved
     returns)

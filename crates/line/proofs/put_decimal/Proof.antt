@@ -39,12 +39,6 @@ module _ (l : tie.At-loop-left invariant-loop-left decreases-loop-left) where
   inside : l.loop-left.place < length l.loop-left.out
   inside = omega (arith, long, in_out n l.loop-left.left at l.loop-left.place out l.loop-left.out fits l.loop-left.invariant)
 
-decimal_length-requires : tie.Need-decimal_length-requires invariant-loop-left decreases-loop-left
-decimal_length-requires c κs = search rules
-
-overflow_add-place : tie.Need-overflow_add-place invariant-loop-left decreases-loop-left
-overflow_add-place c = search rules
-
 overflow_sub-place : tie.Need-overflow_sub-place invariant-loop-left decreases-loop-left
 overflow_sub-place c = omega (arith, decimal_some c.args.n)
 
@@ -53,29 +47,14 @@ loop-left-init c =
     let a = c.args in
     begun a.n a.at (a.at + c.decimal_length.result - 1) a.out.now (omega (arith, c.decimal_length.ensures.0, decimal_some a.n))
 
-overflow_add-out : tie.Need-overflow_add-out invariant-loop-left decreases-loop-left
-overflow_add-out c = search rules
-
-overflow_cast-out : tie.Need-overflow_cast-out invariant-loop-left decreases-loop-left
-overflow_cast-out c = search rules
-
 bounds-out-place : tie.Need-bounds-out-place invariant-loop-left decreases-loop-left
 bounds-out-place c = let l = c.before in omega (arith, inside l)
 
 overflow_sub-place-in-loop-left : tie.Need-overflow_sub-place-in-loop-left invariant-loop-left decreases-loop-left
 overflow_sub-place-in-loop-left c = let l = c.before in omega (arith, not_first (n l) l.loop-left.left (at l) l.loop-left.place (out l) l.loop-left.out (fits l) l.loop-left.invariant c.loop-left-test.true)
 
-loop-left-smaller : tie.Need-loop-left-smaller invariant-loop-left decreases-loop-left
-loop-left-smaller c = search rules
-
 loop-left-preserved : tie.Need-loop-left-preserved invariant-loop-left decreases-loop-left
 loop-left-preserved c = let l = c.before in one_more (n l) l.loop-left.left (at l) l.loop-left.place (out l) l.loop-left.out (fits l) l.loop-left.invariant c.loop-left-test.true
-
-overflow_add-out-2 : tie.Need-overflow_add-out-2 invariant-loop-left decreases-loop-left
-overflow_add-out-2 c = search rules
-
-overflow_cast-out-2 : tie.Need-overflow_cast-out-2 invariant-loop-left decreases-loop-left
-overflow_cast-out-2 c = search rules
 
 bounds-out-place-2 : tie.Need-bounds-out-place-2 invariant-loop-left decreases-loop-left
 bounds-out-place-2 c = omega (arith, inside c.before)
@@ -92,18 +71,18 @@ put_decimal_spec =
     (tie.spec
     invariant-loop-left
     decreases-loop-left
-    decimal_length-requires
-    overflow_add-place
+    (λ c κs. search rules)
+    (λ c. search rules)
     overflow_sub-place
     loop-left-init
-    overflow_add-out
-    overflow_cast-out
+    (λ c. search rules)
+    (λ c. search rules)
     bounds-out-place
     overflow_sub-place-in-loop-left
-    loop-left-smaller
+    (λ c. search rules)
     loop-left-preserved
-    overflow_add-out-2
-    overflow_cast-out-2
+    (λ c. search rules)
+    (λ c. search rules)
     bounds-out-place-2
     shape_of-out
     returns)

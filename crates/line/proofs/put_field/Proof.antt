@@ -23,9 +23,6 @@ fits s = omega (arith, s.requires, length-append (decimal s.args.n) (s.args.afte
 long : (c : tie.After-put_decimal) → length c.put_decimal.new.out ≡ length (start (counted c)).args.out.now
 long c = c.put_decimal.auto.out
 
-decimal_length-requires : tie.Need-decimal_length-requires
-decimal_length-requires c κs = search rules
-
 overflow_add-end : tie.Need-overflow_add-end
 overflow_add-end c = omega (arith, fits (start c))
 
@@ -55,7 +52,7 @@ pub put_field_spec : {M : Type 1} → statement M
 put_field_spec =
     tie.close
     (tie.spec
-    decimal_length-requires
+    (λ c κs. search rules)
     overflow_add-end
     put_decimal-requires
     bounds-out-end

@@ -17,9 +17,6 @@ decreases-loop-y a b x₀ y₀ x y = y
 loop-y-init : tie.Need-loop-y-init invariant-loop-y decreases-loop-y
 loop-y-init c = refl
 
-nonzero_rem-rest : tie.Need-nonzero_rem-rest invariant-loop-y decreases-loop-y
-nonzero_rem-rest c = search rules
-
 loop-y-smaller : tie.Need-loop-y-smaller invariant-loop-y decreases-loop-y
 loop-y-smaller c = let l = c.loop-y in mod-lt l.x {m = l.y} (omega arith)
 
@@ -35,7 +32,7 @@ divisor_spec =
     invariant-loop-y
     decreases-loop-y
     loop-y-init
-    nonzero_rem-rest
+    (λ c. search rules)
     loop-y-smaller
     loop-y-preserved
     returns)

@@ -8,9 +8,6 @@ use borrow.Author.Rules.{rules}
 use Rattle.mean.proofs.put_figures.Statement.{statement}
 use Rattle.mean.proofs.put_figures.Tie as tie
 
-bounds-out-0 : tie.Need-bounds-out-0
-bounds-out-0 c = search rules
-
 bounds-out-1 : tie.Need-bounds-out-1
 bounds-out-1 c = simp length-set (omega arith)
 
@@ -23,12 +20,6 @@ bounds-out-3 c = simp length-set (omega arith)
 bounds-out-4 : tie.Need-bounds-out-4
 bounds-out-4 c = simp length-set (omega arith)
 
-bounds-out-5 : tie.Need-bounds-out-5
-bounds-out-5 c = search rules
-
-shape_of-out : tie.Need-shape_of-out
-shape_of-out c = search rules
-
 returns : tie.Need-returns
 unfolding figures_of
 returns c = let a = c.args in sets-eq (figures_of (meaning a.r)) a.out.now 0 c.requires
@@ -37,11 +28,11 @@ pub put_figures_spec : {M : Type 1} → statement M
 put_figures_spec =
     tie.close
     (tie.spec
-    bounds-out-0
+    (λ c. search rules)
     bounds-out-1
     bounds-out-2
     bounds-out-3
     bounds-out-4
-    bounds-out-5
-    shape_of-out
+    (λ c. search rules)
+    (λ c. search rules)
     returns)

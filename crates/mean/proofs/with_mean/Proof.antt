@@ -24,9 +24,6 @@ some_divisor c = let t = total c in omega (arith, c.divisor-d.ensures, gcd_posit
 returns-then-t-eq0 : tie.Need-returns-then-t-eq0
 returns-then-t-eq0 c = let t = c.args.t in let m = mean_none t.sum t.read c.if-t-eq0.true in by_mean t 0 1 (sym m.0) (sym m.1)
 
-divisor-d-requires : tie.Need-divisor-d-requires
-divisor-d-requires c κs = search rules
-
 nonzero_div-result : tie.Need-nonzero_div-result
 nonzero_div-result c = some_divisor c.before
 
@@ -44,7 +41,7 @@ returns c =
 pub with_mean_spec : {M : Type 1} → statement M
 with_mean_spec = tie.close (tie.spec
     returns-then-t-eq0
-    divisor-d-requires
+    (λ c κs. search rules)
     nonzero_div-result
     nonzero_div-result-2
     returns)

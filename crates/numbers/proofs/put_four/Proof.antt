@@ -19,41 +19,14 @@ stored_four at w x y z out p =
     let three : at + 3 ≡ suc (suc (suc at)) = omega arith in
     (λ i. set (set (set (set out at w) (one i) x) (two i) y) (three i) z) ∙ sets-eq (w ∷ x ∷ y ∷ z ∷ []) out at (omega arith)
 
-overflow_cast-out : tie.Need-overflow_cast-out
-overflow_cast-out c = search rules
-
-bounds-out-at : tie.Need-bounds-out-at
-bounds-out-at c = search rules
-
-overflow_cast-out-2 : tie.Need-overflow_cast-out-2
-overflow_cast-out-2 c = search rules
-
-overflow_add-out : tie.Need-overflow_add-out
-overflow_add-out c = search rules
-
 bounds-out-at-2 : tie.Need-bounds-out-at-2
 bounds-out-at-2 c = simp length-set (omega arith)
-
-overflow_cast-out-3 : tie.Need-overflow_cast-out-3
-overflow_cast-out-3 c = search rules
-
-overflow_add-out-2 : tie.Need-overflow_add-out-2
-overflow_add-out-2 c = search rules
 
 bounds-out-at-3 : tie.Need-bounds-out-at-3
 bounds-out-at-3 c = simp length-set (omega arith)
 
-overflow_cast-out-4 : tie.Need-overflow_cast-out-4
-overflow_cast-out-4 c = search rules
-
-overflow_add-out-3 : tie.Need-overflow_add-out-3
-overflow_add-out-3 c = search rules
-
 bounds-out-at-4 : tie.Need-bounds-out-at-4
 bounds-out-at-4 c = simp length-set (omega arith)
-
-shape_of-out : tie.Need-shape_of-out
-shape_of-out c = search rules
 
 returns : tie.Need-returns
 unfolding digits
@@ -65,16 +38,16 @@ pub put_four_spec : {M : Type 1} → statement M
 put_four_spec =
     tie.close
     (tie.spec
-    overflow_cast-out
-    bounds-out-at
-    overflow_cast-out-2
-    overflow_add-out
+    (λ c. search rules)
+    (λ c. search rules)
+    (λ c. search rules)
+    (λ c. search rules)
     bounds-out-at-2
-    overflow_cast-out-3
-    overflow_add-out-2
+    (λ c. search rules)
+    (λ c. search rules)
     bounds-out-at-3
-    overflow_cast-out-4
-    overflow_add-out-3
+    (λ c. search rules)
+    (λ c. search rules)
     bounds-out-at-4
-    shape_of-out
+    (λ c. search rules)
     returns)

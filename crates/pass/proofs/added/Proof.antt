@@ -5,17 +5,11 @@ use Rattle.paper.specs.Strings.{Bytes, ◌⊕◌}
 use Rattle.pass.proofs.added.Statement.{statement}
 use Rattle.pass.proofs.added.Tie as tie
 
-e-e-requires : tie.Need-e-e-requires
-e-e-requires c κs = search rules
-
-xor-requires : tie.Need-xor-requires
-xor-requires c κs = search rules
-
 returns : tie.Need-returns
 returns c = c.xor.ensures ∙ ap (λ (l : Bytes). c.args.a ⊕ l) c.e-e.ensures
 
 pub added_spec : {M : Type 1} → statement M
 added_spec = tie.close (tie.spec
-    e-e-requires
-    xor-requires
+    (λ c κs. search rules)
+    (λ c κs. search rules)
     returns)

@@ -11,17 +11,11 @@ use Rattle.pass.proofs.Indices.{at_row}
 use Rattle.pass.proofs.added_at.Statement.{statement}
 use Rattle.pass.proofs.added_at.Tie as tie
 
-at-p-requires : tie.Need-at-p-requires
-at-p-requires c κs = search rules
-
 e_running-e-requires : tie.Need-e_running-e-requires
 e_running-e-requires c κs =
     let s = c.before in
     let first : c.at-p.result.1 ≤ 2 = omega (arith, ap (λ (p : Pair). p.1) c.at-p.ensures) in
     (running c.at-p.result 1 s.args.b c.at-p.ensures s.args.k s.args.power (omega arith) s.requires.0 s.requires.1, first, s.requires.2)
-
-xor-requires : tie.Need-xor-requires
-xor-requires c κs = search rules
 
 returns : tie.Need-returns
 returns c =
@@ -31,7 +25,7 @@ returns c =
 
 pub added_at_spec : {M : Type 1} → statement M
 added_at_spec = tie.close (tie.spec
-    at-p-requires
+    (λ c κs. search rules)
     e_running-e-requires
-    xor-requires
+    (λ c κs. search rules)
     returns)

@@ -9,15 +9,6 @@ use Rattle.pass.specs.Pairs.{xors}
 use Rattle.pass.proofs.added_at_each.Statement.{statement}
 use Rattle.pass.proofs.added_at_each.Tie as tie
 
-xor-masked-requires : tie.Need-xor-masked-requires
-xor-masked-requires c κs = search rules
-
-under1-e-requires : tie.Need-under1-e-requires
-under1-e-requires c κs = search rules
-
-xor-requires : tie.Need-xor-requires
-xor-requires c κs = search rules
-
 returns : tie.Need-returns
 returns c =
     let e : tie.After-under1-e = c.before.before in
@@ -28,7 +19,7 @@ returns c =
 
 pub added_at_each_spec : {M : Type 1} → statement M
 added_at_each_spec = tie.close (tie.spec
-    xor-masked-requires
-    under1-e-requires
-    xor-requires
+    (λ c κs. search rules)
+    (λ c κs. search rules)
+    (λ c κs. search rules)
     returns)

@@ -5,12 +5,6 @@ use Rattle.pass.specs.Pairs.{xors}
 use Rattle.pass.proofs.added_each.Statement.{statement}
 use Rattle.pass.proofs.added_each.Tie as tie
 
-under0-e-requires : tie.Need-under0-e-requires
-under0-e-requires c κs = search rules
-
-xor-requires : tie.Need-xor-requires
-xor-requires c κs = search rules
-
 returns : tie.Need-returns
 returns c =
     let e : tie.After-under0-e = c.before.before in
@@ -18,6 +12,6 @@ returns c =
 
 pub added_each_spec : {M : Type 1} → statement M
 added_each_spec = tie.close (tie.spec
-    under0-e-requires
-    xor-requires
+    (λ c κs. search rules)
+    (λ c κs. search rules)
     returns)

@@ -59,9 +59,6 @@ size c = let l = c.loop-s in l.at + 32 * c.taken-n.result - l.at
 long : (c : tie.After-taken-n invariant-loop-s decreases-loop-s) → length (take (size c) (drop c.loop-s.at c.loop-s.s)) ≡ 32 * c.taken-n.result
 long c = simp (length-take, length-drop) (omega (arith, there c))
 
-power-power-requires : tie.Need-power-power-requires invariant-loop-s decreases-loop-s
-power-power-requires c κs = search rules
-
 loop-s-init : tie.Need-loop-s-init invariant-loop-s decreases-loop-s
 loop-s-init c =
     let s : tie.Start invariant-loop-s decreases-loop-s = c.before.before in
@@ -72,26 +69,11 @@ loop-s-init c =
 overflow_sub-s : tie.Need-overflow_sub-s invariant-loop-s decreases-loop-s
 overflow_sub-s c = omega (arith, c.loop-s.invariant.0.replaced.same, c.loop-s.invariant.0.within)
 
-overflow_sub-left : tie.Need-overflow_sub-left invariant-loop-s decreases-loop-s
-overflow_sub-left c = search rules
-
-overflow_sub-left-in-loop-s : tie.Need-overflow_sub-left-in-loop-s invariant-loop-s decreases-loop-s
-overflow_sub-left-in-loop-s c = search rules
-
-taken-n-requires : tie.Need-taken-n-requires invariant-loop-s decreases-loop-s
-taken-n-requires c κs = search rules
-
 overflow_mul-end : tie.Need-overflow_mul-end invariant-loop-s decreases-loop-s
 overflow_mul-end c = omega (arith, (fits c).few)
 
 overflow_add-end : tie.Need-overflow_add-end invariant-loop-s decreases-loop-s
 overflow_add-end c = omega (arith, there c)
-
-slice_bounds-some_pairs-count : tie.Need-slice_bounds-some_pairs-count invariant-loop-s decreases-loop-s
-slice_bounds-some_pairs-count c = search rules
-
-slice_bounds-some_pairs-start : tie.Need-slice_bounds-some_pairs-start invariant-loop-s decreases-loop-s
-slice_bounds-some_pairs-start c = search rules
 
 slice_bounds-some_pairs-end : tie.Need-slice_bounds-some_pairs-end invariant-loop-s decreases-loop-s
 slice_bounds-some_pairs-end c = omega (arith, there c)
@@ -116,9 +98,6 @@ some_pairs-x-requires c κs =
     let s = start at in
     let l = at.loop-s in
     (l.invariant.0.from1, omega (arith, number at), (omega (arith, long t), omega (arith, long t, (fits t).few)), l.invariant.1, s.requires.2, λ more. s.requires.3 (grouped t more))
-
-xor-more-requires : tie.Need-xor-more-requires invariant-loop-s decreases-loop-s
-xor-more-requires c κs = search rules
 
 power_after-next-requires : tie.Need-power_after-next-requires invariant-loop-s decreases-loop-s
 power_after-next-requires c κs =
@@ -168,19 +147,19 @@ all_pairs_spec =
     (tie.spec
     invariant-loop-s
     decreases-loop-s
-    power-power-requires
+    (λ c κs. search rules)
     loop-s-init
     overflow_sub-s
-    overflow_sub-left
-    overflow_sub-left-in-loop-s
-    taken-n-requires
+    (λ c. search rules)
+    (λ c. search rules)
+    (λ c κs. search rules)
     overflow_mul-end
     overflow_add-end
-    slice_bounds-some_pairs-count
-    slice_bounds-some_pairs-start
+    (λ c. search rules)
+    (λ c. search rules)
     slice_bounds-some_pairs-end
     some_pairs-x-requires
-    xor-more-requires
+    (λ c κs. search rules)
     power_after-next-requires
     overflow_cast-b
     overflow_add-b

@@ -39,29 +39,8 @@ P c = c.args.part.now
 few : (c : tie.Start) → length (P c) / 32 ≤ 16
 few c = omega (arith, c.requires.2.0, c.requires.2.1)
 
-load-left-requires : tie.Need-load-left-requires
-load-left-requires c κs = search rules
-
-load-right-requires : tie.Need-load-right-requires
-load-right-requires c κs = search rules
-
-masks-masks-requires : tie.Need-masks-masks-requires
-masks-masks-requires c κs = search rules
-
-added_at_each-w-requires : tie.Need-added_at_each-w-requires
-added_at_each-w-requires c κs = search rules
-
-added_each-x-requires : tie.Need-added_each-x-requires
-added_each-x-requires c κs = search rules
-
-put_pairs-requires : tie.Need-put_pairs-requires
-put_pairs-requires c κs = search rules
-
 sum-requires : tie.Need-sum-requires
 sum-requires c κs = omega (arith, few (start (put c.before)))
-
-shape_of-part : tie.Need-shape_of-part
-shape_of-part c = search rules
 
 returns : tie.Need-returns
 returns c =
@@ -89,12 +68,12 @@ pub first_group_spec : {M : Type 1} → statement M
 first_group_spec =
     tie.close
     (tie.spec
-    load-left-requires
-    load-right-requires
-    masks-masks-requires
-    added_at_each-w-requires
-    added_each-x-requires
-    put_pairs-requires
+    (λ c κs. search rules)
+    (λ c κs. search rules)
+    (λ c κs. search rules)
+    (λ c κs. search rules)
+    (λ c κs. search rules)
+    (λ c κs. search rules)
     sum-requires
-    shape_of-part
+    (λ c. search rules)
     returns)

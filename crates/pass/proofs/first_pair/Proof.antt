@@ -7,24 +7,6 @@ use Rattle.pass.proofs.Steps.{first_made}
 use Rattle.pass.proofs.first_pair.Statement.{statement}
 use Rattle.pass.proofs.first_pair.Tie as tie
 
-load-left-requires : tie.Need-load-left-requires
-load-left-requires c κs = search rules
-
-load-right-requires : tie.Need-load-right-requires
-load-right-requires c κs = search rules
-
-added_at-w-requires : tie.Need-added_at-w-requires
-added_at-w-requires c κs = search rules
-
-added-x-requires : tie.Need-added-x-requires
-added-x-requires c κs = search rules
-
-put_two-requires : tie.Need-put_two-requires
-put_two-requires c κs = search rules
-
-shape_of-part : tie.Need-shape_of-part
-shape_of-part c = search rules
-
 returns : tie.Need-returns
 returns c =
     let put : tie.After-put_two = c.before.before in
@@ -40,10 +22,10 @@ pub first_pair_spec : {M : Type 1} → statement M
 first_pair_spec =
     tie.close
     (tie.spec
-    load-left-requires
-    load-right-requires
-    added_at-w-requires
-    added-x-requires
-    put_two-requires
-    shape_of-part
+    (λ c κs. search rules)
+    (λ c κs. search rules)
+    (λ c κs. search rules)
+    (λ c κs. search rules)
+    (λ c κs. search rules)
+    (λ c. search rules)
     returns)

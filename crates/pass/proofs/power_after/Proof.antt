@@ -25,17 +25,8 @@ entry c = c.before
 loop-i-init : tie.Need-loop-i-init invariant-loop-i decreases-loop-i
 loop-i-init c = (omega arith, omega arith, after_none c.args.b c.args.power)
 
-next_power-next-requires : tie.Need-next_power-next-requires invariant-loop-i decreases-loop-i
-next_power-next-requires c κs = search rules
-
 overflow_add-at : tie.Need-overflow_add-at invariant-loop-i decreases-loop-i
 overflow_add-at c = omega (arith, (turn c).loop-i.invariant.1, (entry (turn c)).requires.0, (entry (turn c)).requires.1)
-
-overflow_add-i : tie.Need-overflow_add-i invariant-loop-i decreases-loop-i
-overflow_add-i c = search rules
-
-loop-i-smaller : tie.Need-loop-i-smaller invariant-loop-i decreases-loop-i
-loop-i-smaller c = search rules
 
 loop-i-preserved : tie.Need-loop-i-preserved invariant-loop-i decreases-loop-i
 loop-i-preserved c =
@@ -57,9 +48,9 @@ power_after_spec =
     invariant-loop-i
     decreases-loop-i
     loop-i-init
-    next_power-next-requires
+    (λ c κs. search rules)
     overflow_add-at
-    overflow_add-i
-    loop-i-smaller
+    (λ c. search rules)
+    (λ c. search rules)
     loop-i-preserved
     returns)

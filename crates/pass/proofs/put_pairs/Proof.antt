@@ -47,26 +47,14 @@ offset_bounds-a-i c = omega (arith, (room c).1)
 bounds-a-i : tie.Need-bounds-a-i invariant-loop-at decreases-loop-at
 bounds-a-i c = omega (arith, (room c).1)
 
-to_block-x-requires : tie.Need-to_block-x-requires invariant-loop-at decreases-loop-at
-to_block-x-requires c κs = search rules
-
 offset_bounds-b-i : tie.Need-offset_bounds-b-i invariant-loop-at decreases-loop-at
 offset_bounds-b-i c = omega (arith, (room c.before.before).1)
 
 bounds-b-i : tie.Need-bounds-b-i invariant-loop-at decreases-loop-at
 bounds-b-i c = omega (arith, (room c.before.before).1)
 
-to_block-y-requires : tie.Need-to_block-y-requires invariant-loop-at decreases-loop-at
-to_block-y-requires c κs = search rules
-
 abbrev turn : tie.After-to_block-y invariant-loop-at decreases-loop-at → tie.In-loop-at invariant-loop-at decreases-loop-at
 turn c = c.before.before.before.before
-
-slice_bounds-put_two-count : tie.Need-slice_bounds-put_two-count invariant-loop-at decreases-loop-at
-slice_bounds-put_two-count c = search rules
-
-slice_bounds-put_two-start : tie.Need-slice_bounds-put_two-start invariant-loop-at decreases-loop-at
-slice_bounds-put_two-start c = search rules
 
 slice_bounds-put_two-end : tie.Need-slice_bounds-put_two-end invariant-loop-at decreases-loop-at
 slice_bounds-put_two-end c = omega (arith, (room (turn c)).0)
@@ -126,12 +114,12 @@ put_pairs_spec =
     overflow_add-end
     offset_bounds-a-i
     bounds-a-i
-    to_block-x-requires
+    (λ c κs. search rules)
     offset_bounds-b-i
     bounds-b-i
-    to_block-y-requires
-    slice_bounds-put_two-count
-    slice_bounds-put_two-start
+    (λ c κs. search rules)
+    (λ c. search rules)
+    (λ c. search rules)
     slice_bounds-put_two-end
     put_two-requires
     overflow_add-i

@@ -6,15 +6,6 @@ use Rattle.pass.proofs.Stores.{stored}
 use Rattle.pass.proofs.put_two.Statement.{statement}
 use Rattle.pass.proofs.put_two.Tie as tie
 
-store-requires : tie.Need-store-requires
-store-requires c κs = search rules
-
-store-requires-2 : tie.Need-store-requires-2
-store-requires-2 c κs = search rules
-
-shape_of-part : tie.Need-shape_of-part
-shape_of-part c = search rules
-
 returns : tie.Need-returns
 returns c =
     let second : tie.After-store-2 = c.before.before in
@@ -25,7 +16,7 @@ returns c =
 
 pub put_two_spec : {M : Type 1} → statement M
 put_two_spec = tie.close (tie.spec
-    store-requires
-    store-requires-2
-    shape_of-part
+    (λ c κs. search rules)
+    (λ c κs. search rules)
+    (λ c. search rules)
     returns)

@@ -49,27 +49,6 @@ P c = c.args.part.now
 few : (c : tie.Start) → length (P c) / 32 ≤ 16
 few c = omega (arith, c.requires.2.0, c.requires.2.1)
 
-masks-masks-requires : tie.Need-masks-masks-requires
-masks-masks-requires c κs = search rules
-
-sum_at_each-s-requires : tie.Need-sum_at_each-s-requires
-sum_at_each-s-requires c κs = search rules
-
-load-left-requires : tie.Need-load-left-requires
-load-left-requires c κs = search rules
-
-load-right-requires : tie.Need-load-right-requires
-load-right-requires c κs = search rules
-
-xor-y-requires : tie.Need-xor-y-requires
-xor-y-requires c κs = search rules
-
-xor-z-requires : tie.Need-xor-z-requires
-xor-z-requires c κs = search rules
-
-added_each-second-requires : tie.Need-added_each-second-requires
-added_each-second-requires c κs = search rules
-
 added_at_each-first-requires : tie.Need-added_at_each-first-requires
 added_at_each-first-requires c κs = (start c.before.before.before).requires.5.1
 
@@ -78,9 +57,6 @@ put_pairs-requires c κs = (start (second (first c))).requires.2
 
 sum-requires : tie.Need-sum-requires
 sum-requires c κs = omega (arith, few (start (second (first (put c.before).before))))
-
-shape_of-part : tie.Need-shape_of-part
-shape_of-part c = search rules
 
 returns : tie.Need-returns
 returns c =
@@ -114,15 +90,15 @@ pub second_group_spec : {M : Type 1} → statement M
 second_group_spec =
     tie.close
     (tie.spec
-    masks-masks-requires
-    sum_at_each-s-requires
-    load-left-requires
-    load-right-requires
-    xor-y-requires
-    xor-z-requires
-    added_each-second-requires
+    (λ c κs. search rules)
+    (λ c κs. search rules)
+    (λ c κs. search rules)
+    (λ c κs. search rules)
+    (λ c κs. search rules)
+    (λ c κs. search rules)
+    (λ c κs. search rules)
     added_at_each-first-requires
     put_pairs-requires
     sum-requires
-    shape_of-part
+    (λ c. search rules)
     returns)

@@ -12,38 +12,11 @@ use Rattle.pass.proofs.Steps.{second_made}
 use Rattle.pass.proofs.second_pair.Statement.{statement}
 use Rattle.pass.proofs.second_pair.Tie as tie
 
-at-p-requires : tie.Need-at-p-requires
-at-p-requires c κs = search rules
-
 e_running-s-requires : tie.Need-e_running-s-requires
 e_running-s-requires c κs =
     let s : tie.Start = c.before.before in
     let second : c.at-p.result.1 ≤ 2 = omega (arith, ap (λ (p : Pair). p.1) c.at-p.ensures) in
     (running c.at-p.result 2 s.args.b c.at-p.ensures s.args.k s.args.power (omega arith) s.requires.0 s.requires.2, second, s.requires.3)
-
-load-left-requires : tie.Need-load-left-requires
-load-left-requires c κs = search rules
-
-load-right-requires : tie.Need-load-right-requires
-load-right-requires c κs = search rules
-
-xor-y-requires : tie.Need-xor-y-requires
-xor-y-requires c κs = search rules
-
-xor-z-requires : tie.Need-xor-z-requires
-xor-z-requires c κs = search rules
-
-added-second-requires : tie.Need-added-second-requires
-added-second-requires c κs = search rules
-
-added_at-first-requires : tie.Need-added_at-first-requires
-added_at-first-requires c κs = search rules
-
-put_two-requires : tie.Need-put_two-requires
-put_two-requires c κs = search rules
-
-shape_of-part : tie.Need-shape_of-part
-shape_of-part c = search rules
 
 returns : tie.Need-returns
 returns c =
@@ -65,14 +38,14 @@ pub second_pair_spec : {M : Type 1} → statement M
 second_pair_spec =
     tie.close
     (tie.spec
-    at-p-requires
+    (λ c κs. search rules)
     e_running-s-requires
-    load-left-requires
-    load-right-requires
-    xor-y-requires
-    xor-z-requires
-    added-second-requires
-    added_at-first-requires
-    put_two-requires
-    shape_of-part
+    (λ c κs. search rules)
+    (λ c κs. search rules)
+    (λ c κs. search rules)
+    (λ c κs. search rules)
+    (λ c κs. search rules)
+    (λ c κs. search rules)
+    (λ c κs. search rules)
+    (λ c. search rules)
     returns)

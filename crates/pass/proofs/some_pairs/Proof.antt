@@ -10,12 +10,6 @@ use Rattle.pass.proofs.One.{one_summed, one_joined}
 use Rattle.pass.proofs.some_pairs.Statement.{statement}
 use Rattle.pass.proofs.some_pairs.Tie as tie
 
-one_pair-requires : tie.Need-one_pair-requires
-one_pair-requires c κs = search rules
-
-shape_of-part-then-part-eq32 : tie.Need-shape_of-part-then-part-eq32
-shape_of-part-then-part-eq32 c = search rules
-
 returns-then-part-eq32 : tie.Need-returns-then-part-eq32
 returns-then-part-eq32 c =
     let call : tie.After-one_pair = c.before.before in
@@ -34,18 +28,12 @@ one_group-requires c κs =
     let s : tie.Start = c.before.before.before in
     (s.requires.0, s.requires.1, s.requires.2, s.requires.3, s.requires.4, s.requires.5 c.if-part-eq32.false)
 
-shape_of-part : tie.Need-shape_of-part
-shape_of-part c = search rules
-
-returns : tie.Need-returns
-returns c = search rules
-
 pub some_pairs_spec : {M : Type 1} → statement M
 some_pairs_spec =
     tie.close (tie.spec
-    one_pair-requires
-    shape_of-part-then-part-eq32
+    (λ c κs. search rules)
+    (λ c. search rules)
     returns-then-part-eq32
     one_group-requires
-    shape_of-part
-    returns)
+    (λ c. search rules)
+    (λ c. search rules))

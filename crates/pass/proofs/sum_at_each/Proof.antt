@@ -9,15 +9,6 @@ use Rattle.pass.specs.Pairs.{xors}
 use Rattle.pass.proofs.sum_at_each.Statement.{statement}
 use Rattle.pass.proofs.sum_at_each.Tie as tie
 
-of_block-c-requires : tie.Need-of_block-c-requires
-of_block-c-requires c κs = search rules
-
-xor-masked-requires : tie.Need-xor-masked-requires
-xor-masked-requires c κs = search rules
-
-under2-requires : tie.Need-under2-requires
-under2-requires c κs = search rules
-
 returns : tie.Need-returns
 returns c =
     let masked : tie.After-xor-masked = c.before.before in
@@ -29,7 +20,7 @@ returns c =
 
 pub sum_at_each_spec : {M : Type 1} → statement M
 sum_at_each_spec = tie.close (tie.spec
-    of_block-c-requires
-    xor-masked-requires
-    under2-requires
+    (λ c κs. search rules)
+    (λ c κs. search rules)
+    (λ c κs. search rules)
     returns)

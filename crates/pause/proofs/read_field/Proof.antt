@@ -25,24 +25,6 @@ module _ (c : tie.In-Is) where
   under : pausing (start marked).args.header.now text ≡ pause_read (read_pause known text)
   under = by_mark (start marked).args.header.now text _ (sym c.in-Is.is ∙ marked.header_mark.ensures)
 
-header_mark-requires : tie.Need-header_mark-requires
-header_mark-requires c κs = search rules
-
-enum_known-number : tie.Need-enum_known-number
-enum_known-number c = search rules
-
-enum_known-mark : tie.Need-enum_known-mark
-enum_known-mark c = search rules
-
-read_text-requires : tie.Need-read_text-requires
-read_text-requires c κs = search rules
-
-enum_told-1 : tie.Need-enum_told-1
-enum_told-1 c = search rules
-
-enum_known-microseconds : tie.Need-enum_known-microseconds
-enum_known-microseconds c = search rules
-
 returns-in-Refused : tie.Need-returns-in-Refused
 returns-in-Refused c =
     let m = c.before in
@@ -63,12 +45,12 @@ pub read_field_spec : {M : Type 1} → statement M
 read_field_spec =
     tie.close
     (tie.spec
-    header_mark-requires
-    enum_known-number
-    enum_known-mark
-    read_text-requires
-    enum_told-1
-    enum_known-microseconds
+    (λ c κs. search rules)
+    (λ c. search rules)
+    (λ c. search rules)
+    (λ c κs. search rules)
+    (λ c. search rules)
+    (λ c. search rules)
     returns-in-Refused
     returns-in-Bad
     returns-in-Pause)

@@ -74,38 +74,14 @@ module _ (c : tie.In-At-entry invariant-loop-i decreases-loop-i) where
       own_part (h (of_read at_end)) (low (of_read at_end)) at_end.loop-i.i at_end.loop-i.at (omega arith) at_end.loop-i.invariant.1 from to is_entry
       ∙ ap (λ (k : ℕ). get_or at_end.loop-i.invariant.1.strings k []) last
 
-read-requires : tie.Need-read-requires invariant-loop-i decreases-loop-i
-read-requires c κs = search rules
-
-enum_known-n : tie.Need-enum_known-n invariant-loop-i decreases-loop-i
-enum_known-n c = search rules
-
-enum_told-1 : tie.Need-enum_told-1 invariant-loop-i decreases-loop-i
-enum_told-1 c = search rules
-
 returns-in_default : tie.Need-returns-in_default invariant-loop-i decreases-loop-i
 returns-in_default c = let r = c.before in not_read (h r) _ (sym c.in_default.is ∙ r.read.ensures)
-
-returns-then-n-ne4 : tie.Need-returns-then-n-ne4 invariant-loop-i decreases-loop-i
-returns-then-n-ne4 c =
-    let t = c.before in
-    let ss = strings t in
-    other_count (read_header (h (read t))) ss.0 ss.1 (λ e. c.if-n-ne4.true (sym ss.2 ∙ e))
 
 loop-i-init : tie.Need-loop-i-init invariant-loop-i decreases-loop-i
 loop-i-init c =
     let t = c.before in
     let ss = strings t in
-    (omega arith, begun (h (read t)) ss.0 (low (read t)) ss.1 (ss.2 ∙ c.if-n-ne4.false))
-
-entry-requires : tie.Need-entry-requires invariant-loop-i decreases-loop-i
-entry-requires c κs = search rules
-
-enum_known-end : tie.Need-enum_known-end invariant-loop-i decreases-loop-i
-enum_known-end c = search rules
-
-enum_told-in_default-entry : tie.Need-enum_told-in_default-entry invariant-loop-i decreases-loop-i
-enum_told-in_default-entry c = search rules
+    (omega arith, begun (h (read t)) ss.0 (low (read t)) ss.1 (let four : length ss.0 ≡ 4 = omega (arith, ss.2) in four))
 
 returns-in_default-entry : tie.Need-returns-in_default-entry invariant-loop-i decreases-loop-i
 returns-in_default-entry c =
@@ -114,12 +90,6 @@ returns-in_default-entry c =
     let r = of_read l in
     absurd (never_bad (h r) (low r) l.loop-i.i l.loop-i.at (omega arith) l.loop-i.invariant.1 (sym c.in_default-entry.is ∙ p.entry.ensures.0))
 
-overflow_add-i : tie.Need-overflow_add-i invariant-loop-i decreases-loop-i
-overflow_add-i c = search rules
-
-loop-i-smaller : tie.Need-loop-i-smaller invariant-loop-i decreases-loop-i
-loop-i-smaller c = search rules
-
 loop-i-preserved : tie.Need-loop-i-preserved invariant-loop-i decreases-loop-i
 loop-i-preserved c =
     let place = c.in-At in
@@ -127,15 +97,6 @@ loop-i-preserved c =
     let l = p.before.before in
     let r = of_read l in
     (omega arith, goes_on (h r) (low r) l.loop-i.i l.loop-i.at (omega arith) l.loop-i.invariant.1 place.field-0 place.end (sym place.is ∙ p.entry.ensures.0))
-
-entry-requires-2 : tie.Need-entry-requires-2 invariant-loop-i decreases-loop-i
-entry-requires-2 c κs = search rules
-
-enum_known-start : tie.Need-enum_known-start invariant-loop-i decreases-loop-i
-enum_known-start c = search rules
-
-enum_told-in_default-entry-2 : tie.Need-enum_told-in_default-entry-2 invariant-loop-i decreases-loop-i
-enum_told-in_default-entry-2 c = search rules
 
 returns-in_default-entry-2 : tie.Need-returns-in_default-entry-2 invariant-loop-i decreases-loop-i
 returns-in_default-entry-2 c =
@@ -152,9 +113,6 @@ slice_bounds-mark_of-start c = (inside c).0
 
 slice_bounds-mark_of-end : tie.Need-slice_bounds-mark_of-end invariant-loop-i decreases-loop-i
 slice_bounds-mark_of-end c = (inside c).1
-
-mark_of-mark-requires : tie.Need-mark_of-mark-requires invariant-loop-i decreases-loop-i
-mark_of-mark-requires c κs = search rules
 
 returns-then-mark-eq0 : tie.Need-returns-then-mark-eq0 invariant-loop-i decreases-loop-i
 returns-then-mark-eq0 c =
@@ -176,26 +134,26 @@ header_mark_spec =
     (tie.spec
     invariant-loop-i
     decreases-loop-i
-    read-requires
-    enum_known-n
-    enum_told-1
+    (λ c κs. search rules)
+    (λ c. search rules)
+    (λ c. search rules)
     returns-in_default
-    returns-then-n-ne4
+    (λ c. let t = c.before in let ss = strings t in other_count (read_header (h (read t))) ss.0 ss.1 (λ e. let n = sym ss.2 ∙ e in omega arith))
     loop-i-init
-    entry-requires
-    enum_known-end
-    enum_told-in_default-entry
+    (λ c κs. search rules)
+    (λ c. search rules)
+    (λ c. search rules)
     returns-in_default-entry
-    overflow_add-i
-    loop-i-smaller
+    (λ c. search rules)
+    (λ c. search rules)
     loop-i-preserved
-    entry-requires-2
-    enum_known-start
-    enum_told-in_default-entry-2
+    (λ c κs. search rules)
+    (λ c. search rules)
+    (λ c. search rules)
     returns-in_default-entry-2
     slice_bounds-mark_of-count
     slice_bounds-mark_of-start
     slice_bounds-mark_of-end
-    mark_of-mark-requires
+    (λ c κs. search rules)
     returns-then-mark-eq0
     returns)

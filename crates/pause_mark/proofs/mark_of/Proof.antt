@@ -25,29 +25,14 @@ name l = l.args.name.now
 loop-i-init : tie.Need-loop-i-init invariant-loop-i decreases-loop-i
 loop-i-init c = (omega arith, first_row c.args.name.now)
 
-offset_bounds-i : tie.Need-offset_bounds-i invariant-loop-i decreases-loop-i
-offset_bounds-i c = search rules
-
-bounds-i-i : tie.Need-bounds-i-i invariant-loop-i decreases-loop-i
-bounds-i-i c = search rules
-
 slice_bounds-is_rest-end : tie.Need-slice_bounds-is_rest-end invariant-loop-i decreases-loop-i
 slice_bounds-is_rest-end c = let l = turn c in sym (row_long l.loop-i.i (omega arith))
-
-is_rest-requires : tie.Need-is_rest-requires invariant-loop-i decreases-loop-i
-is_rest-requires c κs = search rules
 
 returns-then-is_rest : tie.Need-returns-then-is_rest invariant-loop-i decreases-loop-i
 returns-then-is_rest c =
     let r = c.before in
     let l = turn r.before in
     found_row (name l) l.loop-i.i l.loop-i.invariant.1 (omega arith) (sym r.is_rest.ensures ∙ c.if-is_rest.true)
-
-overflow_add-i : tie.Need-overflow_add-i invariant-loop-i decreases-loop-i
-overflow_add-i c = search rules
-
-loop-i-smaller : tie.Need-loop-i-smaller invariant-loop-i decreases-loop-i
-loop-i-smaller c = search rules
 
 loop-i-preserved : tie.Need-loop-i-preserved invariant-loop-i decreases-loop-i
 loop-i-preserved c =
@@ -65,12 +50,12 @@ mark_of_spec =
     invariant-loop-i
     decreases-loop-i
     loop-i-init
-    offset_bounds-i
-    bounds-i-i
+    (λ c. search rules)
+    (λ c. search rules)
     slice_bounds-is_rest-end
-    is_rest-requires
+    (λ c κs. search rules)
     returns-then-is_rest
-    overflow_add-i
-    loop-i-smaller
+    (λ c. search rules)
+    (λ c. search rules)
     loop-i-preserved
     returns)

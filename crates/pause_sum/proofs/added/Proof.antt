@@ -13,21 +13,6 @@ compared c = c.before.before
 abbrev read : tie.After-larger-longest → tie.In-Pause
 read c = c.before
 
-enum_told-1 : tie.Need-enum_told-1
-enum_told-1 c = search rules
-
-overflow_add-result : tie.Need-overflow_add-result
-overflow_add-result c = search rules
-
-enum_known-pause : tie.Need-enum_known-pause
-enum_known-pause c = search rules
-
-larger-longest-requires : tie.Need-larger-longest-requires
-larger-longest-requires c κs = search rules
-
-overflow_add-result-in-Pause : tie.Need-overflow_add-result-in-Pause
-overflow_add-result-in-Pause c = search rules
-
 overflow_add-result-in-Pause-2 : tie.Need-overflow_add-result-in-Pause-2
 overflow_add-result-in-Pause-2 c = let p = read (compared c) in omega (arith, p.requires.2, ap microseconds_in p.in-Pause.is)
 
@@ -51,11 +36,11 @@ pub added_spec : {M : Type 1} → statement M
 added_spec =
     tie.close
     (tie.spec
-    enum_told-1
-    overflow_add-result
-    enum_known-pause
-    larger-longest-requires
-    overflow_add-result-in-Pause
+    (λ c. search rules)
+    (λ c. search rules)
+    (λ c. search rules)
+    (λ c κs. search rules)
+    (λ c. search rules)
     overflow_add-result-in-Pause-2
     returns-in-Bad
     returns-in-Pause)

@@ -38,27 +38,6 @@ fraction_small c =
     let d = counted c.before in
     fraction_below (text d) (whole d) (end d) d.digits_end-end.ensures.0 c.number-n.result c.number-m.result (whole_small c.before) (omega arith) c.number-m.ensures
 
-overflow_add-from : tie.Need-overflow_add-from
-overflow_add-from c = search rules
-
-digits_end-end-requires : tie.Need-digits_end-end-requires
-digits_end-end-requires c κs = search rules
-
-overflow_sub-digits : tie.Need-overflow_sub-digits
-overflow_sub-digits c = search rules
-
-returns-then-digits-lt1 : tie.Need-returns-then-digits-lt1
-returns-then-digits-lt1 c = let d = c.before in ap read_as (sym (no_fraction_none (text d) (whole d) (end d) d.digits_end-end.ensures.0 c.if-digits-lt1.true))
-
-returns-then-digits-gt3 : tie.Need-returns-then-digits-gt3
-returns-then-digits-gt3 c =
-    let d = c.before.before in
-    ap read_as
-    (sym (long_fraction (take (whole d) (text d)) (drop (whole d + 1) (text d)) (end d - (whole d + 1)) (omega (arith, d.digits_end-end.ensures.0)) c.if-digits-gt3.true))
-
-number-n-requires : tie.Need-number-n-requires
-number-n-requires c κs = search rules
-
 number-m-requires : tie.Need-number-m-requires
 number-m-requires c κs = (whole_small c, omega arith, omega arith, omega arith, omega arith)
 
@@ -84,12 +63,12 @@ pub after_mark_spec : {M : Type 1} → statement M
 after_mark_spec =
     tie.close
     (tie.spec
-    overflow_add-from
-    digits_end-end-requires
-    overflow_sub-digits
-    returns-then-digits-lt1
-    returns-then-digits-gt3
-    number-n-requires
+    (λ c. search rules)
+    (λ c κs. search rules)
+    (λ c. search rules)
+    (λ c. let d = c.before in ap read_as (sym (no_fraction_none (text d) (whole d) (end d) d.digits_end-end.ensures.0 (omega arith))))
+    (λ c. let d = c.before.before in ap read_as (sym (long_fraction (take (whole d) (text d)) (drop (whole d + 1) (text d)) (end d - (whole d + 1)) (omega (arith, d.digits_end-end.ensures.0)) (omega arith))))
+    (λ c κs. search rules)
     number-m-requires
     filled-requires
     with_unit-requires

@@ -19,32 +19,17 @@ decreases-loop-at text from at₀ at = length text - at
 abbrev turn : tie.After-shared_slice_known-1 invariant-loop-at decreases-loop-at → tie.At-loop-at invariant-loop-at decreases-loop-at
 turn c = c.before.before
 
-loop-at-init : tie.Need-loop-at-init invariant-loop-at decreases-loop-at
-loop-at-init c = search rules
-
-bounds-text-at : tie.Need-bounds-text-at invariant-loop-at decreases-loop-at
-bounds-text-at c = search rules
-
 returns-then-text-at-lt48 : tie.Need-returns-then-text-at-lt48 invariant-loop-at decreases-loop-at
 returns-then-text-at-lt48 c =
     let l = turn c.before in
     let t = l.args.text.now in
     (omega (arith, l.loop-at.invariant.1, none_here t l.loop-at.at (omega arith) (below_digits (get_or t l.loop-at.at 0) c.if-text-at-lt48.true)), omega arith)
 
-bounds-text-at-in-loop-at : tie.Need-bounds-text-at-in-loop-at invariant-loop-at decreases-loop-at
-bounds-text-at-in-loop-at c = search rules
-
 returns-then-text-at-gt57 : tie.Need-returns-then-text-at-gt57 invariant-loop-at decreases-loop-at
 returns-then-text-at-gt57 c =
     let l = turn c.before.before.before in
     let t = l.args.text.now in
     (omega (arith, l.loop-at.invariant.1, none_here t l.loop-at.at (omega arith) (above_digits (get_or t l.loop-at.at 0) c.if-text-at-gt57.true)), omega arith)
-
-overflow_add-at : tie.Need-overflow_add-at invariant-loop-at decreases-loop-at
-overflow_add-at c = search rules
-
-loop-at-smaller : tie.Need-loop-at-smaller invariant-loop-at decreases-loop-at
-loop-at-smaller c = search rules
 
 loop-at-preserved : tie.Need-loop-at-preserved invariant-loop-at decreases-loop-at
 loop-at-preserved c =
@@ -63,12 +48,12 @@ digits_end_spec =
     (tie.spec
     invariant-loop-at
     decreases-loop-at
-    loop-at-init
-    bounds-text-at
+    (λ c. search rules)
+    (λ c. search rules)
     returns-then-text-at-lt48
-    bounds-text-at-in-loop-at
+    (λ c. search rules)
     returns-then-text-at-gt57
-    overflow_add-at
-    loop-at-smaller
+    (λ c. search rules)
+    (λ c. search rules)
     loop-at-preserved
     returns)

@@ -14,20 +14,11 @@ use Rattle.pause_text.proofs.filled.Tie as tie
 fills : (s : tie.Start) (d : ℕ) → s.args.digits ≡ d → decimal_after s.args.n (replicate (3 - s.args.digits) 48) ≡ decimal_after s.args.n (replicate (3 - d) 48)
 fills s d e = ap (λ (k : ℕ). decimal_after s.args.n (replicate (3 - k) 48)) e
 
-overflow_mul-result : tie.Need-overflow_mul-result
-overflow_mul-result c = search rules
-
 returns-then-digits-eq0 : tie.Need-returns-then-digits-eq0
 returns-then-digits-eq0 c = sym (fills c.before 0 c.if-digits-eq0.true ∙ zeros_3 c.args.n)
 
-overflow_mul-result-then-digits-eq1 : tie.Need-overflow_mul-result-then-digits-eq1
-overflow_mul-result-then-digits-eq1 c = search rules
-
 returns-then-digits-eq1 : tie.Need-returns-then-digits-eq1
 returns-then-digits-eq1 c = let s = c.before.before in sym (fills s 1 c.if-digits-eq1.true ∙ zeros_2 s.args.n)
-
-overflow_mul-result-then-digits-eq2 : tie.Need-overflow_mul-result-then-digits-eq2
-overflow_mul-result-then-digits-eq2 c = search rules
 
 returns-then-digits-eq2 : tie.Need-returns-then-digits-eq2
 returns-then-digits-eq2 c = let s = c.before.before.before in sym (fills s 2 c.if-digits-eq2.true ∙ zeros_1 s.args.n)
@@ -38,10 +29,10 @@ returns c = let s = c.before.before.before in let three : s.args.digits ≡ 3 = 
 pub filled_spec : {M : Type 1} → statement M
 filled_spec =
     tie.close (tie.spec
-    overflow_mul-result
+    (λ c. search rules)
     returns-then-digits-eq0
-    overflow_mul-result-then-digits-eq1
+    (λ c. search rules)
     returns-then-digits-eq1
-    overflow_mul-result-then-digits-eq2
+    (λ c. search rules)
     returns-then-digits-eq2
     returns)

@@ -52,12 +52,6 @@ digit-requires c κs =
 overflow_add-value : tie.Need-overflow_add-value invariant-loop-at decreases-loop-at
 overflow_add-value c = omega (arith, small c.before.before.before)
 
-overflow_add-at : tie.Need-overflow_add-at invariant-loop-at decreases-loop-at
-overflow_add-at c = search rules
-
-loop-at-smaller : tie.Need-loop-at-smaller invariant-loop-at decreases-loop-at
-loop-at-smaller c = search rules
-
 loop-at-preserved : tie.Need-loop-at-preserved invariant-loop-at decreases-loop-at
 loop-at-preserved c =
     let l = c.before.before.before in
@@ -82,7 +76,7 @@ number_spec =
     bounds-text-at
     digit-requires
     overflow_add-value
-    overflow_add-at
-    loop-at-smaller
+    (λ c. search rules)
+    (λ c. search rules)
     loop-at-preserved
     returns)

@@ -32,29 +32,15 @@ whole_small c =
     let d = counted c.before.before in
     whole_below (text d) (whole d) c.number-n.result c.number-n.ensures (omega arith) (omega (arith, d.digits_end-whole.ensures.0))
 
-digits_end-whole-requires : tie.Need-digits_end-whole-requires
-digits_end-whole-requires c κs = search rules
-
 returns-then-whole-lt1 : tie.Need-returns-then-whole-lt1
 returns-then-whole-lt1 c =
     let d = c.before in
     ap read_as (sym (no_whole (mark d) (text d) (whole d) (omega (arith, d.digits_end-whole.ensures.0)) c.if-whole-lt1.true))
 
-returns-then-whole-gt9 : tie.Need-returns-then-whole-gt9
-returns-then-whole-gt9 c =
-    let d = c.before.before in
-    ap read_as (sym (long_whole (mark d) (text d) (whole d) (omega (arith, d.digits_end-whole.ensures.0)) c.if-whole-gt9.true))
-
 returns-then-whole-text : tie.Need-returns-then-whole-text
 returns-then-whole-text c =
     let d = c.before.before.before in
     ap read_as (sym (nothing_after (text d) (whole d) (mark d) d.digits_end-whole.ensures.0 (omega arith) (omega arith) c.if-whole-text.true))
-
-bounds-text-whole : tie.Need-bounds-text-whole
-bounds-text-whole c = search rules
-
-after_mark-requires : tie.Need-after_mark-requires
-after_mark-requires c κs = search rules
 
 returns-then-text-whole : tie.Need-returns-then-text-whole
 returns-then-text-whole c =
@@ -62,9 +48,6 @@ returns-then-text-whole c =
     let d = counted t.before in
     c.after_mark.ensures
     ∙ ap read_as (sym (mark_after (text d) (whole d) (mark d) d.digits_end-whole.ensures.0 (omega arith) (omega arith) t.if-text-whole.true))
-
-number-n-requires : tie.Need-number-n-requires
-number-n-requires c κs = search rules
 
 filled-requires : tie.Need-filled-requires
 filled-requires c κs = (omega (arith, whole_small c), omega arith)
@@ -87,14 +70,14 @@ pub read_text_spec : {M : Type 1} → statement M
 read_text_spec =
     tie.close
     (tie.spec
-    digits_end-whole-requires
+    (λ c κs. search rules)
     returns-then-whole-lt1
-    returns-then-whole-gt9
+    (λ c. let d = c.before.before in ap read_as (sym (long_whole (mark d) (text d) (whole d) (omega (arith, d.digits_end-whole.ensures.0)) (omega arith))))
     returns-then-whole-text
-    bounds-text-whole
-    after_mark-requires
+    (λ c. search rules)
+    (λ c κs. search rules)
     returns-then-text-whole
-    number-n-requires
+    (λ c κs. search rules)
     filled-requires
     with_unit-requires
     returns)

@@ -10,25 +10,10 @@ use borrow.Author.Rules.{rules}
 use Rattle.pause_unit.proofs.is_rest.Statement.{statement}
 use Rattle.pause_unit.proofs.is_rest.Tie as tie
 
-overflow_sub-text : tie.Need-overflow_sub-text
-overflow_sub-text c = search rules
-
 returns-then-text-at : tie.Need-returns-then-text-at
 returns-then-text-at c =
     let a = c.args in
     differ (drop a.at a.text.now) a.s.now (λ e. c.if-text-at.true (sym (length-drop a.at a.text.now) ∙ e))
-
-slice_bounds-same_bytes-count : tie.Need-slice_bounds-same_bytes-count
-slice_bounds-same_bytes-count c = search rules
-
-slice_bounds-same_bytes-start : tie.Need-slice_bounds-same_bytes-start
-slice_bounds-same_bytes-start c = search rules
-
-slice_bounds-same_bytes-end : tie.Need-slice_bounds-same_bytes-end
-slice_bounds-same_bytes-end c = search rules
-
-same_bytes-requires : tie.Need-same_bytes-requires
-same_bytes-requires c κs = search rules
 
 returns : tie.Need-returns
 returns c =
@@ -39,10 +24,10 @@ pub is_rest_spec : {M : Type 1} → statement M
 is_rest_spec =
     tie.close
     (tie.spec
-    overflow_sub-text
+    (λ c. search rules)
     returns-then-text-at
-    slice_bounds-same_bytes-count
-    slice_bounds-same_bytes-start
-    slice_bounds-same_bytes-end
-    same_bytes-requires
+    (λ c. search rules)
+    (λ c. search rules)
+    (λ c. search rules)
+    (λ c κs. search rules)
     returns)

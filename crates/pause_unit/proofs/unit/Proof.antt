@@ -14,16 +14,10 @@ use Rattle.pause_unit.proofs.unit.Tie as tie
 abbrev X : tie.Start → Bytes
 X s = drop s.args.at s.args.text.now
 
-is_rest-requires : tie.Need-is_rest-requires
-is_rest-requires c κs = search rules
-
 returns-then-is_rest : tie.Need-returns-then-is_rest
 returns-then-is_rest c =
     let r = c.before in
     (ap or_zero (sym (unit_by (X r.before.before.before.before) true _ (sym r.is_rest.ensures ∙ c.if-is_rest.true) refl)), omega arith)
-
-is_rest-requires-2 : tie.Need-is_rest-requires-2
-is_rest-requires-2 c κs = search rules
 
 returns-then-is_rest-2 : tie.Need-returns-then-is_rest-2
 returns-then-is_rest-2 c =
@@ -41,8 +35,8 @@ pub unit_spec : {M : Type 1} → statement M
 unit_spec =
     tie.close
     (tie.spec
-    is_rest-requires
+    (λ c κs. search rules)
     returns-then-is_rest
-    is_rest-requires-2
+    (λ c κs. search rules)
     returns-then-is_rest-2
     returns)

@@ -8,9 +8,6 @@ use borrow.Author.Rules.{rules}
 use Rattle.pause_unit.proofs.with_unit.Statement.{statement}
 use Rattle.pause_unit.proofs.with_unit.Tie as tie
 
-unit-u-requires : tie.Need-unit-u-requires
-unit-u-requires c κs = search rules
-
 returns-then-u-eq0 : tie.Need-returns-then-u-eq0
 returns-then-u-eq0 c =
     let s = c.before.before.before in
@@ -26,7 +23,7 @@ returns c =
 
 pub with_unit_spec : {M : Type 1} → statement M
 with_unit_spec = tie.close (tie.spec
-    unit-u-requires
+    (λ c κs. search rules)
     returns-then-u-eq0
     overflow_mul-result
     returns)

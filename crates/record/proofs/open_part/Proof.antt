@@ -13,15 +13,6 @@ start c = c.before.before.before.before.before.before
 abbrev last : tie.After-open-answer → Bytes
 last c = c.open-answer.new.out
 
-open-answer-requires : tie.Need-open-answer-requires
-open-answer-requires c κs = search rules
-
-slice_bounds-result-count : tie.Need-slice_bounds-result-count
-slice_bounds-result-count c = search rules
-
-slice_bounds-out-start : tie.Need-slice_bounds-out-start
-slice_bounds-out-start c = search rules
-
 slice_bounds-out-end : tie.Need-slice_bounds-out-end
 slice_bounds-out-end c =
     let o = c.before.before in
@@ -36,8 +27,8 @@ returns c =
 
 pub open_part_spec : {M : Type 1} → statement M
 open_part_spec = tie.close (tie.spec
-    open-answer-requires
-    slice_bounds-result-count
-    slice_bounds-out-start
+    (λ c κs. search rules)
+    (λ c. search rules)
+    (λ c. search rules)
     slice_bounds-out-end
     returns)

@@ -2,6 +2,7 @@
 use mathlib.Core.Bool.{true, false}
 use mathlib.Core.Path.{◌≡◌, refl, ◌∙◌}
 use Prim.Native.Nat.{ℕ, ◌<◌}
+use native.Mathlib.Omega.{arith}
 use borrow.Author.Rules.{rules}
 use borrow.Author.Tests.{lt-ltb, le-ltb, eq-eqb, ne_eqb}
 use lib.Dec.{ltb}
@@ -23,52 +24,37 @@ is_read (bad_entry j) n e = cc
 is_read (as_strings ss) n e = refl
 
 -- where tests 1 and 2 are passed, the header settles it
-abbrev start : tie.Else-stretch-gt64 → tie.Start
-start c = c.before.before.before.before.before
+abbrev start : tie.After-read → tie.Start
+start c = c.before.before.before.before.before.before
 
-by_header : (c : tie.Else-stretch-gt64) → unread (reading (start c).args.header.now) ≡ settled_common (start c).args.key.now (start c).args.header.now (start c).args.stretch.0
+by_header : (c : tie.After-read) → unread (reading (start c).args.header.now) ≡ settled_common (start c).args.key.now (start c).args.header.now (start c).args.stretch.0
 by_header c =
     let a = (start c).args in
-    common_then a.key.now a.header.now a.stretch.0 true false (eq-eqb _ _ c.if-key-ne48.false) (le-ltb _ _ c.if-stretch-gt64.false)
+    common_then a.key.now a.header.now a.stretch.0 true false (eq-eqb _ _ c.if-key-ne48.false) (le-ltb _ _ (omega arith))
 
 returns-then-key-ne48 : tie.Need-returns-then-key-ne48
 returns-then-key-ne48 c =
     let a = c.args in
     common_then a.key.now a.header.now a.stretch.0 false (ltb longest_stretch a.stretch.0) (ne_eqb _ _ c.if-key-ne48.true) refl
 
-returns-then-stretch-gt64 : tie.Need-returns-then-stretch-gt64
-returns-then-stretch-gt64 c =
-    let a = c.args in
-    let over : longest_stretch < a.stretch.0 = c.if-stretch-gt64.true in
-    common_then a.key.now a.header.now a.stretch.0 true true (eq-eqb _ _ c.if-key-ne48.false) (lt-ltb _ _ over)
-
-read-requires : tie.Need-read-requires
-read-requires c κs = search rules
-
-enum_known-at : tie.Need-enum_known-at
-enum_known-at c = search rules
-
-enum_told-1 : tie.Need-enum_told-1
-enum_told-1 c = search rules
-
 returns-in-Bad : tie.Need-returns-in-Bad
 returns-in-Bad c =
     let bad = c in
     let read = bad.before in
-    not_read (reading (start read.before).args.header.now) _ (rw bad.in-Bad.is at read.read.ensures) ∙ by_header read.before
+    not_read (reading (start read).args.header.now) _ (rw bad.in-Bad.is at read.read.ensures) ∙ by_header read
 
 returns-in-Strings : tie.Need-returns-in-Strings
 returns-in-Strings c =
     let read = c.before in
-    is_read (reading (start read.before).args.header.now) _ (rw c.in-Strings.is at read.read.ensures) ∙ by_header read.before
+    is_read (reading (start read).args.header.now) _ (rw c.in-Strings.is at read.read.ensures) ∙ by_header read
 
 pub settled_spec : {M : Type 1} → statement M
 settled_spec =
     tie.close (tie.spec
     returns-then-key-ne48
-    returns-then-stretch-gt64
-    read-requires
-    enum_known-at
-    enum_told-1
+    (λ c. let a = c.args in common_then a.key.now a.header.now a.stretch.0 true true (eq-eqb _ _ c.if-key-ne48.false) (lt-ltb _ _ (omega arith)))
+    (λ c κs. search rules)
+    (λ c. search rules)
+    (λ c. search rules)
     returns-in-Bad
     returns-in-Strings)

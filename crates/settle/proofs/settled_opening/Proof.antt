@@ -2,6 +2,7 @@
 use mathlib.Core.Bool.{Bool, true, false}
 use mathlib.Core.Path.{◌≡◌, refl}
 use Prim.Native.Nat.{ℕ}
+use native.Mathlib.Omega.{arith}
 use borrow.Author.Rules.{rules}
 use borrow.Author.Tests.{lt-ltb, le-ltb}
 use lib.Dec.{ltb}
@@ -32,41 +33,33 @@ later c b d f =
     let a = (start s).args in
     opening_then a.key.now a.header.now (t s) (sealed s) (room s) s.settled-first.result b d f s.settled-first.ensures c.if-first-ne0.false
 
-settled-first-requires : tie.Need-settled-first-requires
-settled-first-requires c κs = search rules
-
 returns-then-first-ne0 : tie.Need-returns-then-first-ne0
 unfolding settled_opening
 returns-then-first-ne0 c =
     let s = c.before.before in
     first_is (settled_common (start s).args.key.now (start s).args.header.now (t s)) _ s.settled-first.result s.settled-first.ensures c.if-first-ne0.true
 
-returns-then-sealed-gt65536 : tie.Need-returns-then-sealed-gt65536
-returns-then-sealed-gt65536 c =
-    let s = c.before.before.before in
-    later c.before true (ltb (sealed s) (t s)) (ltb (room s) (sealed s)) (lt-ltb _ _ c.if-sealed-gt65536.true) refl refl
-
 returns-then-sealed-t : tie.Need-returns-then-sealed-t
 returns-then-sealed-t c =
     let s = c.before.before.before.before in
-    later c.before.before false true (ltb (room s) (sealed s)) (le-ltb _ _ c.if-sealed-gt65536.false) (lt-ltb _ _ c.if-sealed-t.true) refl
+    later c.before.before false true (ltb (room s) (sealed s)) (le-ltb _ _ (omega arith)) (lt-ltb _ _ c.if-sealed-t.true) refl
 
 returns-then-room-sealed : tie.Need-returns-then-room-sealed
 returns-then-room-sealed c =
     let low = c.before in
-    later low.before.before false false true (le-ltb _ _ low.if-sealed-gt65536.false) (le-ltb _ _ low.if-sealed-t.false) (lt-ltb _ _ c.if-room-sealed.true)
+    later low.before.before false false true (le-ltb _ _ (omega arith)) (le-ltb _ _ low.if-sealed-t.false) (lt-ltb _ _ c.if-room-sealed.true)
 
 returns : tie.Need-returns
 returns c =
     let low = c.before in
-    later low.before.before false false false (le-ltb _ _ low.if-sealed-gt65536.false) (le-ltb _ _ low.if-sealed-t.false) (le-ltb _ _ c.if-room-sealed.false)
+    later low.before.before false false false (le-ltb _ _ (omega arith)) (le-ltb _ _ low.if-sealed-t.false) (le-ltb _ _ c.if-room-sealed.false)
 
 pub settled_opening_spec : {M : Type 1} → statement M
 settled_opening_spec =
     tie.close (tie.spec
-    settled-first-requires
+    (λ c κs. search rules)
     returns-then-first-ne0
-    returns-then-sealed-gt65536
+    (λ c. let s = c.before.before.before in later c.before true (ltb (sealed s) (t s)) (ltb (room s) (sealed s)) (lt-ltb _ _ (omega arith)) refl refl)
     returns-then-sealed-t
     returns-then-room-sealed
     returns)

@@ -40,9 +40,6 @@ later c b d =
     let a = (start s).args in
     sealing_then a.key.now a.header.now (t s) a.text a.room s.settled-first.result b d s.settled-first.ensures c.if-first-ne0.false
 
-settled-first-requires : tie.Need-settled-first-requires
-settled-first-requires c κs = search rules
-
 returns-then-first-ne0 : tie.Need-returns-then-first-ne0
 unfolding settled_sealing
 returns-then-first-ne0 c =
@@ -58,9 +55,6 @@ returns-then-t-text c =
     let over : longest_sealed < size s = omega (arith, short c.before, c.if-t-text.true) in
     later c.before true (ltb (start s).args.room (size s)) (lt-ltb _ _ over) refl
 
-overflow_add-text : tie.Need-overflow_add-text
-overflow_add-text c = search rules
-
 returns-then-room-text : tie.Need-returns-then-room-text
 returns-then-room-text c = later c.before.before false true (le-ltb _ _ (within c.before)) (lt-ltb _ _ c.if-room-text.true)
 
@@ -70,10 +64,10 @@ returns c = later c.before.before false false (le-ltb _ _ (within c.before)) (le
 pub settled_sealing_spec : {M : Type 1} → statement M
 settled_sealing_spec =
     tie.close (tie.spec
-    settled-first-requires
+    (λ c κs. search rules)
     returns-then-first-ne0
     overflow_sub-t
     returns-then-t-text
-    overflow_add-text
+    (λ c. search rules)
     returns-then-room-text
     returns)

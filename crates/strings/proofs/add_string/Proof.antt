@@ -122,28 +122,19 @@ returns-then-n-eq0 c =
     let at : 0 ≡ length T / 16 * 16 = omega arith in
     (c.add_short.ensures.0, with_last (F full) (i full) T (S full) T (λ e. none) (full_is full) (ap (λ (n : ℕ). drop n T) at) (last_is full _ _ T c.add_short.ensures.1))
 
-returns-then-n-eq0-2 : tie.Need-returns-then-n-eq0-2
-returns-then-n-eq0-2 c =
-    let full = c.before.before in
-    (full.add_full-full.ensures.0, full_is full ∙ ap (λ (X : Bytes). S full ⊕ X) (sym (hash_full (F full) (i full) (t (start full)) c.if-n-eq0.false c.if-n-eq0-2.true)))
-
 add_short-requires : tie.Need-add_short-requires
 add_short-requires c κs = (omega arith, c.add_full-full.ensures.0)
 
-abbrev after_full : tie.Else-n-eq0-2 → tie.After-add_full-full
-after_full c = c.before.before
-
 add_short-requires-2 : tie.Need-add_short-requires-2
-add_short-requires-2 c κs = (simp (length-take, length-drop) (omega arith), (after_full c.before.before).add_full-full.ensures.0)
+add_short-requires-2 c κs = (simp (length-take, length-drop) (omega arith), c.add_full-full.ensures.0)
 
 returns : tie.Need-returns
 returns c =
-    let odd = c.before.before.before in
-    let full = after_full odd in
+    let full = c.before.before.before.before.before in
     let T = t (start full) in
     let n : ℕ = length T / 16 * 16 in
     let all : take (length T - n) (drop n T) ≡ drop n T = take_all (length T - n) (drop n T) (simp length-drop (omega arith)) in
-    (c.add_short-2.ensures.0, with_last (F full) (i full) T (S full) _ (λ e. absurd (odd.if-n-eq0-2.false e)) (full_is full) all (last_is full _ _ _ c.add_short-2.ensures.1))
+    (c.add_short-2.ensures.0, with_last (F full) (i full) T (S full) _ (λ e. absurd (omega arith)) (full_is full) all (last_is full _ _ _ c.add_short-2.ensures.1))
 
 pub add_string_spec : {M : Type 1} → statement M
 add_string_spec =
@@ -154,7 +145,7 @@ add_string_spec =
     add_full-full-requires
     add_short-requires
     returns-then-n-eq0
-    returns-then-n-eq0-2
+    (λ c. let full = c.before.before in (full.add_full-full.ensures.0, full_is full ∙ ap (λ (X : Bytes). S full ⊕ X) (sym (hash_full (F full) (i full) (t (start full)) c.if-n-eq0.false (omega arith)))))
     (λ c. search rules)
     (λ c. search rules)
     (λ c. search rules)

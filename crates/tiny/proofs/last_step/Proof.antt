@@ -27,41 +27,6 @@ filled c =
     let zeros : List ℕ = replicate 16 0 in
     c.copy.ensures ∙ ap (λ (k : ℕ). C ++ drop k zeros) (zero-add (length C)) ∙ fill_over 16 C (omega arith) (omega arith)
 
-returns-then-s-ge16 : tie.Need-returns-then-s-ge16
-returns-then-s-ge16 c =
-    let a = c.args in
-    last_long (E (base a.k)) a.delta a.s.now c.if-s-ge16.true
-
-slice_bounds-copy-end : tie.Need-slice_bounds-copy-end
-slice_bounds-copy-end c = search rules
-
-copy-requires : tie.Need-copy-requires
-copy-requires c κs = search rules
-
-bounds-x-0 : tie.Need-bounds-x-0
-bounds-x-0 c = search rules
-
-bounds-x-0-2 : tie.Need-bounds-x-0-2
-bounds-x-0-2 c = search rules
-
-xor-y-requires : tie.Need-xor-y-requires
-xor-y-requires c κs = search rules
-
-e-e-requires : tie.Need-e-e-requires
-e-e-requires c κs = search rules
-
-bounds-s-0 : tie.Need-bounds-s-0
-bounds-s-0 c = search rules
-
-bounds-e-0 : tie.Need-bounds-e-0
-bounds-e-0 c = search rules
-
-bounds-s-0-2 : tie.Need-bounds-s-0-2
-bounds-s-0-2 c = search rules
-
-shape_of-s : tie.Need-shape_of-s
-shape_of-s c = search rules
-
 returns : tie.Need-returns
 returns c =
     let a = (start (copied c)).args in
@@ -73,15 +38,15 @@ pub last_step_spec : {M : Type 1} → statement M
 last_step_spec =
     tie.close
     (tie.spec
-    returns-then-s-ge16
-    slice_bounds-copy-end
-    copy-requires
-    bounds-x-0
-    bounds-x-0-2
-    xor-y-requires
-    e-e-requires
-    bounds-s-0
-    bounds-e-0
-    bounds-s-0-2
-    shape_of-s
+    (λ c. let a = c.args in last_long (E (base a.k)) a.delta a.s.now (omega arith))
+    (λ c. search rules)
+    (λ c κs. search rules)
+    (λ c. search rules)
+    (λ c. search rules)
+    (λ c κs. search rules)
+    (λ c κs. search rules)
+    (λ c. search rules)
+    (λ c. search rules)
+    (λ c. search rules)
+    (λ c. search rules)
     returns)

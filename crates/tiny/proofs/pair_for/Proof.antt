@@ -5,13 +5,10 @@ use borrow.Author.Tests.{le-leb, lt-leb}
 use Rattle.tiny.proofs.pair_for.Statement.{statement}
 use Rattle.tiny.proofs.pair_for.Tie as tie
 
-returns-then-n-ge16 : tie.Need-returns-then-n-ge16
-returns-then-n-ge16 c = simp (le-leb 128 (8 * c.args.n) (omega arith))
-
 returns : tie.Need-returns
 returns c = simp (lt-leb 128 (8 * c.args.n) (omega arith))
 
 pub pair_for_spec : {M : Type 1} → statement M
 pair_for_spec = tie.close (tie.spec
-    returns-then-n-ge16
+    (λ c. simp (le-leb 128 (8 * c.args.n) (omega arith)))
     returns)

@@ -21,20 +21,8 @@ decreases-loop-left keys bits n t₀ left₀ t left = left
 abbrev start : tie.At-loop-left invariant-loop-left decreases-loop-left → tie.Start invariant-loop-left decreases-loop-left
 start c = c.before.before
 
-rounds-left-requires : tie.Need-rounds-left-requires invariant-loop-left decreases-loop-left
-rounds-left-requires c κs = search rules
-
 loop-left-init : tie.Need-loop-left-init invariant-loop-left decreases-loop-left
 loop-left-init c = refl
-
-overflow_sub-left : tie.Need-overflow_sub-left invariant-loop-left decreases-loop-left
-overflow_sub-left c = search rules
-
-turn-next-requires : tie.Need-turn-next-requires invariant-loop-left decreases-loop-left
-turn-next-requires c κs = search rules
-
-loop-left-smaller : tie.Need-loop-left-smaller invariant-loop-left decreases-loop-left
-loop-left-smaller c = search rules
 
 loop-left-preserved : tie.Need-loop-left-preserved invariant-loop-left decreases-loop-left
 loop-left-preserved c =
@@ -60,10 +48,10 @@ turns_down_spec =
     (tie.spec
     invariant-loop-left
     decreases-loop-left
-    rounds-left-requires
+    (λ c κs. search rules)
     loop-left-init
-    overflow_sub-left
-    turn-next-requires
-    loop-left-smaller
+    (λ c. search rules)
+    (λ c κs. search rules)
+    (λ c. search rules)
     loop-left-preserved
     returns)

@@ -20,20 +20,8 @@ decreases-loop-i keys bits n count t₀ i₀ t i = count - i
 abbrev start : tie.At-loop-i invariant-loop-i decreases-loop-i → tie.Start invariant-loop-i decreases-loop-i
 start c = c.before.before
 
-rounds-count-requires : tie.Need-rounds-count-requires invariant-loop-i decreases-loop-i
-rounds-count-requires c κs = search rules
-
 loop-i-init : tie.Need-loop-i-init invariant-loop-i decreases-loop-i
 loop-i-init c = let a = c.args in (omega arith, up_none (keys_of a.keys.now) (block_of a.bits) (blocks_of a.s))
-
-turn-next-requires : tie.Need-turn-next-requires invariant-loop-i decreases-loop-i
-turn-next-requires c κs = search rules
-
-overflow_add-i : tie.Need-overflow_add-i invariant-loop-i decreases-loop-i
-overflow_add-i c = search rules
-
-loop-i-smaller : tie.Need-loop-i-smaller invariant-loop-i decreases-loop-i
-loop-i-smaller c = search rules
 
 loop-i-preserved : tie.Need-loop-i-preserved invariant-loop-i decreases-loop-i
 loop-i-preserved c =
@@ -55,10 +43,10 @@ turns_up_spec =
     (tie.spec
     invariant-loop-i
     decreases-loop-i
-    rounds-count-requires
+    (λ c κs. search rules)
     loop-i-init
-    turn-next-requires
-    overflow_add-i
-    loop-i-smaller
+    (λ c κs. search rules)
+    (λ c. search rules)
+    (λ c. search rules)
     loop-i-preserved
     returns)

@@ -100,61 +100,16 @@ masked_long c =
 second_long : (c : tie.After-all_pairs-second) → length c.all_pairs-second.new.s ≡ length (M (start (masked c)))
 second_long c = c.all_pairs-second.auto.s ∙ masked_long (masked c)
 
-base-b-requires : tie.Need-base-b-requires
-base-b-requires c κs = search rules
-
-multiples-m-requires : tie.Need-multiples-m-requires
-multiples-m-requires c κs = search rules
-
-keys_for-keys-requires : tie.Need-keys_for-keys-requires
-keys_for-keys-requires c κs = search rules
-
-overflow_sub-at : tie.Need-overflow_sub-at
-overflow_sub-at c = search rules
-
-overflow_mul-at : tie.Need-overflow_mul-at
-overflow_mul-at c = search rules
-
-overflow_add-last : tie.Need-overflow_add-last
-overflow_add-last c = search rules
-
 all_pairs-first-requires : tie.Need-all_pairs-first-requires
 all_pairs-first-requires c κs =
     let k : tie.After-keys_for-keys = c.before.before.before in
     (omega arith, omega arith, of k.before, k.keys_for-keys.ensures.0)
 
-slice_bounds-with_uv-count : tie.Need-slice_bounds-with_uv-count
-slice_bounds-with_uv-count c = search rules
-
-slice_bounds-with_uv-start : tie.Need-slice_bounds-with_uv-start
-slice_bounds-with_uv-start c = search rules
-
-slice_bounds-with_uv-end : tie.Need-slice_bounds-with_uv-end
-slice_bounds-with_uv-end c = search rules
-
 with_uv-total-requires : tie.Need-with_uv-total-requires
 with_uv-total-requires c κs = (search rules, of (taken c.before.before.before.before))
 
-slice_bounds-middle-count : tie.Need-slice_bounds-middle-count
-slice_bounds-middle-count c = search rules
-
-slice_bounds-middle-start : tie.Need-slice_bounds-middle-start
-slice_bounds-middle-start c = search rules
-
-slice_bounds-middle-end : tie.Need-slice_bounds-middle-end
-slice_bounds-middle-end c = search rules
-
 middle-sums-requires : tie.Need-middle-sums-requires
 middle-sums-requires c κs = (search rules, of (taken (first c.before.before)))
-
-slice_bounds-mask_uv-count : tie.Need-slice_bounds-mask_uv-count
-slice_bounds-mask_uv-count c = search rules
-
-slice_bounds-mask_uv-start : tie.Need-slice_bounds-mask_uv-start
-slice_bounds-mask_uv-start c = search rules
-
-slice_bounds-mask_uv-end : tie.Need-slice_bounds-mask_uv-end
-slice_bounds-mask_uv-end c = search rules
 
 mask_uv-requires : tie.Need-mask_uv-requires
 mask_uv-requires c κs = (search rules, of (taken (first (total c.before.before.before))))
@@ -165,12 +120,6 @@ all_pairs-second-requires c κs =
     let s = start m in
     (omega (arith, masked_long m, s.requires.1), omega (arith, masked_long m, s.requires.2), of (taken (passed m)), λ long. (keyed (passed m)).keys_for-keys.ensures.0 (omega (arith, masked_long m)))
 
-slice_bounds-with_uv-count-2 : tie.Need-slice_bounds-with_uv-count-2
-slice_bounds-with_uv-count-2 c = search rules
-
-slice_bounds-with_uv-start-2 : tie.Need-slice_bounds-with_uv-start-2
-slice_bounds-with_uv-start-2 c = search rules
-
 slice_bounds-with_uv-end-2 : tie.Need-slice_bounds-with_uv-end-2
 slice_bounds-with_uv-end-2 c =
     let p : tie.After-all_pairs-second = c.before.before.before in
@@ -180,12 +129,6 @@ with_uv-all-requires : tie.Need-with_uv-all-requires
 with_uv-all-requires c κs =
     let p : tie.After-all_pairs-second = c.before.before.before.before in
     (simp (length-take, length-drop) (omega arith), of (taken (passed (masked p))))
-
-slice_bounds-put_last-count : tie.Need-slice_bounds-put_last-count
-slice_bounds-put_last-count c = search rules
-
-slice_bounds-put_last-start : tie.Need-slice_bounds-put_last-start
-slice_bounds-put_last-start c = search rules
 
 slice_bounds-put_last-end : tie.Need-slice_bounds-put_last-end
 slice_bounds-put_last-end c = let p : tie.After-all_pairs-second = second c.before in omega (arith, second_long p)
@@ -235,32 +178,32 @@ pub core_in_place_spec : {M : Type 1} → statement M
 core_in_place_spec =
     tie.close
     (tie.spec
-    base-b-requires
-    multiples-m-requires
-    keys_for-keys-requires
-    overflow_sub-at
-    overflow_mul-at
-    overflow_add-last
+    (λ c κs. search rules)
+    (λ c κs. search rules)
+    (λ c κs. search rules)
+    (λ c. search rules)
+    (λ c. search rules)
+    (λ c. search rules)
     all_pairs-first-requires
-    slice_bounds-with_uv-count
-    slice_bounds-with_uv-start
-    slice_bounds-with_uv-end
+    (λ c. search rules)
+    (λ c. search rules)
+    (λ c. search rules)
     with_uv-total-requires
-    slice_bounds-middle-count
-    slice_bounds-middle-start
-    slice_bounds-middle-end
+    (λ c. search rules)
+    (λ c. search rules)
+    (λ c. search rules)
     middle-sums-requires
-    slice_bounds-mask_uv-count
-    slice_bounds-mask_uv-start
-    slice_bounds-mask_uv-end
+    (λ c. search rules)
+    (λ c. search rules)
+    (λ c. search rules)
     mask_uv-requires
     all_pairs-second-requires
-    slice_bounds-with_uv-count-2
-    slice_bounds-with_uv-start-2
+    (λ c. search rules)
+    (λ c. search rules)
     slice_bounds-with_uv-end-2
     with_uv-all-requires
-    slice_bounds-put_last-count
-    slice_bounds-put_last-start
+    (λ c. search rules)
+    (λ c. search rules)
     slice_bounds-put_last-end
     put_last-requires
     shape_of-s

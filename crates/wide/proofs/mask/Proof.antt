@@ -21,17 +21,8 @@ decreases-loop-i part₀ e i₀ part i = length part₀ - i
 loop-i-init : tie.Need-loop-i-init invariant-loop-i decreases-loop-i
 loop-i-init c = (omega arith, refl, refl)
 
-bounds-part-i : tie.Need-bounds-part-i invariant-loop-i decreases-loop-i
-bounds-part-i c = search rules
-
 bounds-e-i : tie.Need-bounds-e-i invariant-loop-i decreases-loop-i
 bounds-e-i c = omega (arith, c.loop-i.invariant.2)
-
-bounds-part-i-in-loop-i : tie.Need-bounds-part-i-in-loop-i invariant-loop-i decreases-loop-i
-bounds-part-i-in-loop-i c = search rules
-
-overflow_add-i : tie.Need-overflow_add-i invariant-loop-i decreases-loop-i
-overflow_add-i c = search rules
 
 loop-i-smaller : tie.Need-loop-i-smaller invariant-loop-i decreases-loop-i
 loop-i-smaller c = omega (arith, c.loop-i.invariant.2)
@@ -69,10 +60,10 @@ mask_spec =
     invariant-loop-i
     decreases-loop-i
     loop-i-init
-    bounds-part-i
+    (λ c. search rules)
     bounds-e-i
-    bounds-part-i-in-loop-i
-    overflow_add-i
+    (λ c. search rules)
+    (λ c. search rules)
     loop-i-smaller
     loop-i-preserved
     shape_of-part

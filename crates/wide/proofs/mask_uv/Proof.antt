@@ -20,15 +20,6 @@ returns-then-n-eq0 c =
     let a = c.args in
     masked_none (E (base a.k)) a.sum a.uv.now c.if-n-eq0.true
 
-e-e-requires : tie.Need-e-e-requires
-e-e-requires c κs = search rules
-
-mask-requires : tie.Need-mask-requires
-mask-requires c κs = search rules
-
-shape_of-uv-then-n-le15 : tie.Need-shape_of-uv-then-n-le15
-shape_of-uv-then-n-le15 c = search rules
-
 returns-then-n-le15 : tie.Need-returns-then-n-le15
 returns-then-n-le15 c =
     let mask : tie.After-mask = c.before.before in
@@ -36,36 +27,6 @@ returns-then-n-le15 c =
     let e : tie.After-e-e = short.before in
     let a = (start e).args in
     masked_short (E (base a.k)) a.sum a.uv.now e.if-n-eq0.false short.if-n-le15.true e.e-e.result mask.mask.new.part e.e-e.ensures mask.mask.ensures
-
-e-f-requires : tie.Need-e-f-requires
-e-f-requires c κs = search rules
-
-slice_bounds-mask-count : tie.Need-slice_bounds-mask-count
-slice_bounds-mask-count c = search rules
-
-slice_bounds-mask-start : tie.Need-slice_bounds-mask-start
-slice_bounds-mask-start c = search rules
-
-slice_bounds-mask-end : tie.Need-slice_bounds-mask-end
-slice_bounds-mask-end c = search rules
-
-mask-requires-2 : tie.Need-mask-requires-2
-mask-requires-2 c κs = search rules
-
-slice_bounds-mask-count-2 : tie.Need-slice_bounds-mask-count-2
-slice_bounds-mask-count-2 c = search rules
-
-slice_bounds-mask-start-2 : tie.Need-slice_bounds-mask-start-2
-slice_bounds-mask-start-2 c = search rules
-
-slice_bounds-mask-end-2 : tie.Need-slice_bounds-mask-end-2
-slice_bounds-mask-end-2 c = search rules
-
-mask-requires-3 : tie.Need-mask-requires-3
-mask-requires-3 c κs = search rules
-
-shape_of-uv : tie.Need-shape_of-uv
-shape_of-uv c = search rules
 
 returns : tie.Need-returns
 returns c =
@@ -83,18 +44,18 @@ mask_uv_spec =
     tie.close
     (tie.spec
     returns-then-n-eq0
-    e-e-requires
-    mask-requires
-    shape_of-uv-then-n-le15
+    (λ c κs. search rules)
+    (λ c κs. search rules)
+    (λ c. search rules)
     returns-then-n-le15
-    e-f-requires
-    slice_bounds-mask-count
-    slice_bounds-mask-start
-    slice_bounds-mask-end
-    mask-requires-2
-    slice_bounds-mask-count-2
-    slice_bounds-mask-start-2
-    slice_bounds-mask-end-2
-    mask-requires-3
-    shape_of-uv
+    (λ c κs. search rules)
+    (λ c. search rules)
+    (λ c. search rules)
+    (λ c. search rules)
+    (λ c κs. search rules)
+    (λ c. search rules)
+    (λ c. search rules)
+    (λ c. search rules)
+    (λ c κs. search rules)
+    (λ c. search rules)
     returns)

@@ -15,21 +15,6 @@ indices c = c.before.before
 abbrev start : tie.After-pairs_of-i → tie.Start
 start c = c.before.before.before.before
 
-load-mx-requires : tie.Need-load-mx-requires
-load-mx-requires c κs = search rules
-
-load-my-requires : tie.Need-load-my-requires
-load-my-requires c κs = search rules
-
-pairs_of-i-requires : tie.Need-pairs_of-i-requires
-pairs_of-i-requires c κs = search rules
-
-xor-a-requires : tie.Need-xor-a-requires
-xor-a-requires c κs = search rules
-
-xor-b-requires : tie.Need-xor-b-requires
-xor-b-requires c κs = search rules
-
 added-sx-requires : tie.Need-added-sx-requires
 added-sx-requires c κs =
     let i : tie.After-pairs_of-i = indices c.before in
@@ -43,9 +28,6 @@ added-sy-requires c κs =
     let s = start i in
     let way = s.args.way in
     (plain_of way i.pairs_of-i.result i.pairs_of-i.ensures (λ (e : EndPairs). e.xx) (first_small way), s.requires.1)
-
-xor-s-requires : tie.Need-xor-s-requires
-xor-s-requires c κs = search rules
 
 returns : tie.Need-returns
 returns c =
@@ -70,12 +52,12 @@ pub middle_spec : {M : Type 1} → statement M
 middle_spec =
     tie.close
     (tie.spec
-    load-mx-requires
-    load-my-requires
-    pairs_of-i-requires
-    xor-a-requires
-    xor-b-requires
+    (λ c κs. search rules)
+    (λ c κs. search rules)
+    (λ c κs. search rules)
+    (λ c κs. search rules)
+    (λ c κs. search rules)
     added-sx-requires
     added-sy-requires
-    xor-s-requires
+    (λ c κs. search rules)
     returns)

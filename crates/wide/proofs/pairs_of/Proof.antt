@@ -4,12 +4,6 @@ use borrow.Author.Rules.{rules}
 use Rattle.wide.proofs.pairs_of.Statement.{statement}
 use Rattle.wide.proofs.pairs_of.Tie as tie
 
-enum_told-1 : tie.Need-enum_told-1
-enum_told-1 c = search rules
-
-enum_told-in-Decipher : tie.Need-enum_told-in-Decipher
-enum_told-in-Decipher c = search rules
-
 returns-in-Encipher : tie.Need-returns-in-Encipher
 returns-in-Encipher c = rw c.in-Encipher.is refl
 
@@ -18,7 +12,7 @@ returns-in-Decipher c = rw c.in-Decipher.is refl
 
 pub pairs_of_spec : {M : Type 1} → statement M
 pairs_of_spec = tie.close (tie.spec
-    enum_told-1
-    enum_told-in-Decipher
+    (λ c. search rules)
+    (λ c. search rules)
     returns-in-Encipher
     returns-in-Decipher)

@@ -13,20 +13,11 @@ use Rattle.wide.proofs.put_last.Tie as tie
 abbrev start : tie.After-pairs_of-i → tie.Start
 start c = c.before.before.before.before
 
-pairs_of-i-requires : tie.Need-pairs_of-i-requires
-pairs_of-i-requires c κs = search rules
-
 added-cy-requires : tie.Need-added-cy-requires
 added-cy-requires c κs =
     let s = start c.before in
     let way = s.args.way in
     (plain_of way c.pairs_of-i.result c.pairs_of-i.ensures (λ (e : EndPairs). e.yy) (second_small way), s.requires.1)
-
-xor-a-requires : tie.Need-xor-a-requires
-xor-a-requires c κs = search rules
-
-xor-b-requires : tie.Need-xor-b-requires
-xor-b-requires c κs = search rules
 
 added-cx-requires : tie.Need-added-cx-requires
 added-cx-requires c κs =
@@ -34,12 +25,6 @@ added-cx-requires c κs =
     let s = start i in
     let way = s.args.way in
     (plain_of way i.pairs_of-i.result i.pairs_of-i.ensures (λ (e : EndPairs). e.y) (second_small way), s.requires.1)
-
-put_two-requires : tie.Need-put_two-requires
-put_two-requires c κs = search rules
-
-shape_of-last : tie.Need-shape_of-last
-shape_of-last c = search rules
 
 returns : tie.Need-returns
 returns c =
@@ -62,11 +47,11 @@ pub put_last_spec : {M : Type 1} → statement M
 put_last_spec =
     tie.close
     (tie.spec
-    pairs_of-i-requires
+    (λ c κs. search rules)
     added-cy-requires
-    xor-a-requires
-    xor-b-requires
+    (λ c κs. search rules)
+    (λ c κs. search rules)
     added-cx-requires
-    put_two-requires
-    shape_of-last
+    (λ c κs. search rules)
+    (λ c. search rules)
     returns)

@@ -29,35 +29,11 @@ J_block c = (key_bytes c.args.self _ c.well_formed.0).J
 step : (c : tie.Start) (n : ℕ) → four_at c.args.self.rows (4 * (n % 8)) ≡ columns_of ((n % 8) · (8 · J c))
 step c n = kept (8 · J c) c.args.self.rows c.requires.0.Rows (n % 8) (omega arith)
 
-overflow_sub-s : tie.Need-overflow_sub-s
-overflow_sub-s c = search rules
-
-multiple-requires : tie.Need-multiple-requires
-multiple-requires c κs = search rules
-
 returns-then-s-lt8 : tie.Need-returns-then-s-lt8
 returns-then-s-lt8 c =
     let s : tie.Start = c.before.before.before.before.before in
     let small : row s % 8 ≡ row s = omega (arith, c.if-s-lt8.true) in
     c.multiple.ensures ∙ step s (row s) ∙ ap (λ (n : ℕ). columns_of (n · (8 · J s))) small ∙ ap columns_of (times_eight (row s) (J s) (J_block s))
-
-multiple-high-requires : tie.Need-multiple-high-requires
-multiple-high-requires c κs = search rules
-
-double-two-requires : tie.Need-double-two-requires
-double-two-requires c κs = search rules
-
-double-four-requires : tie.Need-double-four-requires
-double-four-requires c κs = search rules
-
-double-eight-requires : tie.Need-double-eight-requires
-double-eight-requires c κs = search rules
-
-multiple-low-requires : tie.Need-multiple-low-requires
-multiple-low-requires c κs = search rules
-
-xor-requires : tie.Need-xor-requires
-xor-requires c κs = search rules
 
 returns : tie.Need-returns
 returns c =
@@ -79,13 +55,13 @@ pub row_mask_spec : {M : Type 1} → statement M
 row_mask_spec =
     tie.close
     (tie.spec
-    overflow_sub-s
-    multiple-requires
+    (λ c. search rules)
+    (λ c κs. search rules)
     returns-then-s-lt8
-    multiple-high-requires
-    double-two-requires
-    double-four-requires
-    double-eight-requires
-    multiple-low-requires
-    xor-requires
+    (λ c κs. search rules)
+    (λ c κs. search rules)
+    (λ c κs. search rules)
+    (λ c κs. search rules)
+    (λ c κs. search rules)
+    (λ c κs. search rules)
     returns)

@@ -4,13 +4,10 @@ use borrow.Author.Rules.{rules}
 use Rattle.pairs.proofs.Pair.string.Statement.{statement}
 use Rattle.pairs.proofs.Pair.string.Tie as tie
 
-overflow_add-result : tie.Need-overflow_add-result
-overflow_add-result c = search rules
-
 returns : tie.Need-returns
 returns c = refl
 
 pub string_spec : {M : Type 1} → statement M
 string_spec = tie.close (tie.spec
-    overflow_add-result
+    (λ c. search rules)
     returns)
