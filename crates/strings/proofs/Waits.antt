@@ -81,7 +81,7 @@ first_string K g f τ n e b =
     let H : Bytes = hash_string f 1 (number τ) in
     let long : length (number τ) ≡ 16 = (number_block τ).len in
     let is = hash_full f 1 (number τ) (λ e. omega arith) (omega arith) in
-    let none = ap (so_far K g) n ∙ ap (λ (X : Bytes). zeros ⊕ X) (added_none (k0 K) g) ∙ ⊕_zeros 16 zeros (omega arith) in
+    let none = ap (so_far K g) n ∙ ap (λ (X : Bytes). zeros ⊕ X) (added_none _ g) ∙ ⊕_zeros 16 zeros (omega arith) in
     e
     ∙ (λ i. none i ⊕ hash_string f 1 (b i))
     ∙ ⊕_comm zeros H

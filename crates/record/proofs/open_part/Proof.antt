@@ -1,5 +1,6 @@
 -- `record::open_part` meets its contract.
 use native.Mathlib.Nat.{zero-add}
+use native.Mathlib.Omega.{arith}
 use borrow.Author.Rules.{rules}
 use Rattle.paper.specs.Strings.{Bytes}
 use Rattle.record.proofs.Parts.{part_fits, part_is}
@@ -17,7 +18,7 @@ slice_bounds-out-end : tie.Need-slice_bounds-out-end
 slice_bounds-out-end c =
     let o = c.before.before in
     let a = (start o).args in
-    part_fits a.key.now a.header.now a.stretch.0 a.sealed.now a.out.now o.open-answer.result (last o) o.open-answer.ensures
+    omega (arith, part_fits a.key.now a.header.now a.stretch.0 a.sealed.now a.out.now o.open-answer.result (last o) o.open-answer.ensures)
 
 returns : tie.Need-returns
 returns c =

@@ -114,14 +114,6 @@ module _ (c : tie.After-add_full-full) where
       subst (λ (K : figure6.Key). so_far K g r ≡ so_far K G₁ c.add_full-full.result ⊕ short_term K M last) (is_base (start c)) e
       ∙ ap (λ (X : Bytes). S₁ ⊕ X) (short_term_lem (K (start c)) i (start c).requires.3 M (is_mask (masked c)) last)
 
-returns-then-n-eq0 : tie.Need-returns-then-n-eq0
-returns-then-n-eq0 c =
-    let full = c.before.before.before in
-    let T = t (start full) in
-    let none : length T ≡ 0 = c.if-n-eq0.true in
-    let at : 0 ≡ length T / 16 * 16 = omega arith in
-    (c.add_short.ensures.0, with_last (F full) (i full) T (S full) T (λ e. none) (full_is full) (ap (λ (n : ℕ). drop n T) at) (last_is full _ _ T c.add_short.ensures.1))
-
 add_short-requires : tie.Need-add_short-requires
 add_short-requires c κs = (omega arith, c.add_full-full.ensures.0)
 
@@ -144,8 +136,13 @@ add_string_spec =
     row_mask-mask-requires
     add_full-full-requires
     add_short-requires
-    returns-then-n-eq0
-    (λ c. let full = c.before.before in (full.add_full-full.ensures.0, full_is full ∙ ap (λ (X : Bytes). S full ⊕ X) (sym (hash_full (F full) (i full) (t (start full)) c.if-n-eq0.false (omega arith)))))
+    (λ c.
+    let full = c.before.before.before in
+    let T = t (start full) in
+    let none : length T ≡ 0 = omega arith in
+    let at : 0 ≡ length T / 16 * 16 = omega arith in
+    (c.add_short.ensures.0, with_last (F full) (i full) T (S full) T (λ e. none) (full_is full) (ap (λ (n : ℕ). drop n T) at) (last_is full _ _ T c.add_short.ensures.1)))
+    (λ c. let full = c.before.before in (full.add_full-full.ensures.0, full_is full ∙ ap (λ (X : Bytes). S full ⊕ X) (sym (hash_full (F full) (i full) (t (start full)) (λ e. omega arith) (omega arith)))))
     (λ c. search rules)
     (λ c. search rules)
     (λ c. search rules)
