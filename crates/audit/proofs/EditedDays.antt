@@ -205,7 +205,7 @@ module _ (B : Bytes) (low : Below 256 B) (size : ℕ) (day : Day) (reads : read_
 -- ---- When an append fits
 
 -- where the file reads and the layout allows the record, the append answers 0 exactly where the grown file fits the buffer and the limit. Its
--- length is `DayGrown.grown-long`: eleven bytes, the sealed bytes and a new header more
+-- length is `DayGrown.grown_long`: eleven bytes, the sealed bytes and a new header more
 module _ (B : Bytes) (size : ℕ) (day : Day) (inside : size ≤ length B) (reads : read_day (take size B) ≡ some day) (number : ℕ) (header : Bytes) (stretch : ℕ)
     (sealed : Bytes) (fits : append_fits number header stretch (length day.headers) ≡ true) (r : Answer) (last : Bytes) (call : Appended B size number header stretch sealed r last) where
   abbrev grown_file_lem : Bytes

@@ -1,4 +1,4 @@
--- THE NUMBERS. What each exported function returns is one of document 01's numbers for that call, and no other number.
+-- THE NUMBERS. What each function of `aez`, which `aez_c` exports with the same clauses, returns is one of document 01's numbers for that call, and no other number.
 use mathlib.Core.Bool.{Bool, true, false, ◌||◌, not}
 use mathlib.Core.List.{List, [], ◌∷◌}
 use mathlib.Core.Option.{Option, none, some}

@@ -12,9 +12,9 @@ use Rattle.halves.proofs.put_joined.Statement.{statement}
 use Rattle.halves.proofs.put_joined.Tie as tie
 
 -- P has R in front, and Q is P with L after R
-one-after-other :
+one_after_other :
     (n : ℕ) (R L P Q Y Z : List ℕ) → length R ≡ n → length L ≡ n → P ≡ R ++ Y → Q ≡ take n P ++ L ++ Z → take (n + n) Q ≡ R ++ L
-one-after-other n R L P Q Y Z r l p q =
+one_after_other n R L P Q Y Z r l p q =
     ap (take (n + n)) (q ∙ ap (λ (X : List ℕ). X ++ L ++ Z) (ap (take n) p ∙ take_at R Y n r))
     ∙ take_at (R ++ L) Z (n + n) (length-append R L ∙ ap₂ ◌+◌ r l)
 
@@ -75,7 +75,7 @@ both : (c : tie.After-copy-2) → H c ≡ R (ready_3 c) ++ L (ready_3 c)
 both c =
     let s = ready_3 c in
     let f = first c.before in
-    one-after-other (n s) (R s) (L s) f.copy.new.s c.copy-2.new.s _ _ (R_long s) (L_long s) f.copy.ensures c.copy-2.ensures
+    one_after_other (n s) (R s) (L s) f.copy.new.s c.copy-2.new.s _ _ (R_long s) (L_long s) f.copy.ensures c.copy-2.ensures
 
 both_long : (c : tie.After-copy-2) → length (H c) ≡ n (ready_3 c) + n (ready_3 c)
 both_long c =
