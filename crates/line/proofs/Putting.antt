@@ -93,6 +93,10 @@ then_byte n after at out fits =
     (arith, length-append (front ++ decimal n) (drop end out), length-append front (decimal n), length-take-le at out (omega arith), length-drop end out, long) in
     sets-eq (after ∷ []) X end (omega (arith, room, long)) ∙ placed_then at (decimal n) (after ∷ []) out (omega arith)
 
+-- the place after both
+pub field_end : (n after at : ℕ) {end : ℕ} → end ≡ at + length (decimal_then n after) → end ≡ at + length (decimal n) + 1
+field_end n after at e = omega (arith, e, length-append (decimal n) (after ∷ []))
+
 -- ---- The line by its fields
 
 abbrev pub fields : paper.Report → Bytes
@@ -143,7 +147,7 @@ module _ (r : paper.Report) where
   abbrev f6 : Bytes
   f6 = decimal_then r.under 0x0a
 
-  pub fields_long : length (line_of r) ≡ length f1 + length f2 + length f3 + length f4 + length f5 + length f6
+  fields_long : length (line_of r) ≡ length f1 + length f2 + length f3 + length f4 + length f5 + length f6
   fields_long =
       omega
       (arith, ap length (line_is r), length-append (f1 ++ f2 ++ f3 ++ f4 ++ f5) f6, length-append (f1 ++ f2 ++ f3 ++ f4) f5, length-append (f1 ++ f2 ++ f3) f4, length-append (f1 ++ f2) f3, length-append f1 f2)
