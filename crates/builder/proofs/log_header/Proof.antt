@@ -72,7 +72,9 @@ log_header_spec =
     tie.close
     (tie.spec
     (λ c κs. search rules)
-    (λ c. let a = (start c.before).args in sym (refuses a.nonce.now a.host.now a.collector.now a.locale.now c.settled-number.result a.out.now c.settled-number.ensures (λ e. omega arith)))
+    (λ c.
+    let a = (start c.before).args in
+    sym (refuses a.nonce.now a.host.now a.collector.now a.locale.now c.settled-number.result a.out.now c.settled-number.ensures (λ e. omega arith)))
     put_log-requires
     log_length-length-requires
     (λ c. search rules)

@@ -55,5 +55,8 @@ too_long_spec = tie.close (tie.spec
     returns-then-nonce-gt1024
     returns-then-host-gt1024
     returns-then-collector-gt1024
-    (λ c. let p = c.before in let a = (start p).args in fourth a.nonce.now a.host.now a.collector.now a.locale.now p.if-nonce-gt1024.false p.if-host-gt1024.false p.if-collector-gt1024.false (omega arith))
+    (λ c.
+    let p = c.before in
+    let a = (start p).args in
+    fourth a.nonce.now a.host.now a.collector.now a.locale.now p.if-nonce-gt1024.false p.if-host-gt1024.false p.if-collector-gt1024.false (omega arith))
     returns)

@@ -99,7 +99,12 @@ records_right_spec =
     (λ c. search rules)
     returns-in_default
     (λ c κs. search rules)
-    (λ c. let told = c.before.before in let at_loop = looped (read told) in let l = at_loop.loop-left in let a = (start at_loop).args in sym (l.invariant.3 ∙ records_wrong a.file.now (low at_loop.before) (start at_loop).requires.1 a.records a.headers l.left l.at l.place (omega arith) l.invariant.0 (omega arith) (e told) (step told) (λ w. let same = c.four.ensures.0 ∙ w in omega arith)))
+    (λ c.
+    let told = c.before.before in
+    let at_loop = looped (read told) in
+    let l = at_loop.loop-left in
+    let a = (start at_loop).args in
+    sym (l.invariant.3 ∙ records_wrong a.file.now (low at_loop.before) (start at_loop).requires.1 a.records a.headers l.left l.at l.place (omega arith) l.invariant.0 (omega arith) (e told) (step told) (λ w. let same = c.four.ensures.0 ∙ w in omega arith)))
     (λ c. search rules)
     (λ c. search rules)
     (λ c. search rules)

@@ -122,11 +122,19 @@ records_fit_spec =
     returns-then-sealed-at
     (λ c. search rules)
     (λ c. search rules)
-    (λ c. let at_loop = looped c.before.before.before in let l = at_loop.loop-i in let a = (start at_loop).args in sym (l.invariant.2 ∙ ap present (record_numbered a.headers a.numbers.now a.stretches.now a.sizes.now a.sealed.now l.i l.at (omega arith) (omega arith))))
+    (λ c.
+    let at_loop = looped c.before.before.before in
+    let l = at_loop.loop-i in
+    let a = (start at_loop).args in
+    sym (l.invariant.2 ∙ ap present (record_numbered a.headers a.numbers.now a.stretches.now a.sizes.now a.sealed.now l.i l.at (omega arith) (omega arith))))
     returns-then-headers-header
     (λ c. search rules)
     (λ c. search rules)
-    (λ c. let at_loop = looped c.before.before.before.before.before.before in let l = at_loop.loop-i in let a = (start at_loop).args in sym (l.invariant.2 ∙ ap present (record_stretched a.headers a.numbers.now a.stretches.now a.sizes.now a.sealed.now l.i l.at (omega arith) (omega arith))))
+    (λ c.
+    let at_loop = looped c.before.before.before.before.before.before in
+    let l = at_loop.loop-i in
+    let a = (start at_loop).args in
+    sym (l.invariant.2 ∙ ap present (record_stretched a.headers a.numbers.now a.stretches.now a.sizes.now a.sealed.now l.i l.at (omega arith) (omega arith))))
     (λ c. search rules)
     (λ c. search rules)
     (λ c. search rules)

@@ -39,6 +39,13 @@ module _ (f : Bytes) (headers at : ℕ) (inside : at ≤ length f) (seven : 7 �
 abbrev start : tie.Else-file-at-lt7 → tie.Start
 start c = c.before.before
 
+-- once its fields are read, its length is looked at, and then its header's number
+abbrev read : tie.Else-file-e → tie.After-entry_at-e
+read c = c.before.before
+
+abbrev within : tie.Else-headers-e → tie.Else-file-e
+within c = c.before.before
+
 module _ (c : tie.After-entry_at-e) where
   abbrev f : Bytes
   f = (start c.before).args.file.now
@@ -62,14 +69,14 @@ returns-then-file-e c =
 returns-then-headers-e : tie.Need-returns-then-headers-e
 returns-then-headers-e c =
     let second = c.before.before in
-    let t = second.before.before in
+    let t = read second in
     unnamed (f t) (headers t) (at t) (start t.before).requires.0 t.if-file-at-lt7.false t.entry_at-e.result t.entry_at-e.ensures.0 second.if-file-e.false c.if-headers-e.true
 
 returns : tie.Need-returns
 returns c =
     let third = c.before.before in
-    let second = third.before.before in
-    let t = second.before.before in
+    let second = within third in
+    let t = read second in
     good (f t) (headers t) (at t) (start t.before).requires.0 t.if-file-at-lt7.false t.entry_at-e.result t.entry_at-e.ensures.0 second.if-file-e.false t.entry_at-e.ensures.1 third.if-headers-e.false (omega arith)
 
 pub record_at_spec : {M : Type 1} → statement M
@@ -80,5 +87,8 @@ record_at_spec =
     (λ c κs. search rules)
     returns-then-file-e
     returns-then-headers-e
-    (λ c. let second = c.before.before.before.before in let t = second.before.before in stretched (f t) (headers t) (at t) (start t.before).requires.0 t.if-file-at-lt7.false t.entry_at-e.result t.entry_at-e.ensures.0 second.if-file-e.false (omega arith))
+    (λ c.
+    let second = within c.before.before in
+    let t = read second in
+    stretched (f t) (headers t) (at t) (start t.before).requires.0 t.if-file-at-lt7.false t.entry_at-e.result t.entry_at-e.ensures.0 second.if-file-e.false (omega arith))
     returns)

@@ -157,7 +157,9 @@ write_spec =
     tie.close
     (tie.spec
     (λ c κs. search rules)
-    (λ c. let b = c.args in write_refused b.lengths.now b.headers.now b.numbers.now b.stretches.now b.sizes.now b.sealed.now c.settled-number.result b.out.now c.settled-number.ensures (λ e. omega arith))
+    (λ c.
+    let b = c.args in
+    write_refused b.lengths.now b.headers.now b.numbers.now b.stretches.now b.sizes.now b.sealed.now c.settled-number.result b.out.now c.settled-number.ensures (λ e. omega arith))
     put_four-requires
     put_headers-end-requires
     put_four-requires-2

@@ -67,7 +67,9 @@ after_mark_spec =
     (λ c κs. search rules)
     (λ c. search rules)
     (λ c. let d = c.before in ap read_as (sym (no_fraction_none (text d) (whole d) (end d) d.digits_end-end.ensures.0 (omega arith))))
-    (λ c. let d = c.before.before in ap read_as (sym (long_fraction (take (whole d) (text d)) (drop (whole d + 1) (text d)) (end d - (whole d + 1)) (omega (arith, d.digits_end-end.ensures.0)) (omega arith))))
+    (λ c.
+    let d = c.before.before in
+    ap read_as (sym (long_fraction (take (whole d) (text d)) (drop (whole d + 1) (text d)) (end d - (whole d + 1)) (omega (arith, d.digits_end-end.ensures.0)) (omega arith))))
     (λ c κs. search rules)
     number-m-requires
     filled-requires

@@ -75,7 +75,10 @@ open_spec =
     tie.close
     (tie.spec
     (λ c κs. search rules)
-    (λ c. let n = c.settled_opening-refusal in let a = (start c.before.before).args in sym (opening_refused a.key.now a.header.now a.stretch.0 a.sealed.now a.out.now n.result n.ensures (λ e. omega arith)))
+    (λ c.
+    let n = c.settled_opening-refusal in
+    let a = (start c.before.before).args in
+    sym (opening_refused a.key.now a.header.now a.stretch.0 a.sealed.now a.out.now n.result n.ensures (λ e. omega arith)))
     key_of-k-requires
     bits-requires
     (λ c κs. search rules)

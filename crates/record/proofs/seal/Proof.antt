@@ -66,7 +66,10 @@ seal_spec =
     tie.close
     (tie.spec
     (λ c κs. search rules)
-    (λ c. let n = c.settled_sealing-refused in let a = (start c.before.before).args in sym (sealing_refused a.key.now a.header.now a.stretch.0 a.text.now a.out.now n.result n.ensures (λ e. omega arith)))
+    (λ c.
+    let n = c.settled_sealing-refused in
+    let a = (start c.before.before).args in
+    sym (sealing_refused a.key.now a.header.now a.stretch.0 a.text.now a.out.now n.result n.ensures (λ e. omega arith)))
     key_of-k-requires
     bits-requires
     (λ c κs. search rules)

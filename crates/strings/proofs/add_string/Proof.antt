@@ -142,7 +142,9 @@ add_string_spec =
     let none : length T ≡ 0 = omega arith in
     let at : 0 ≡ length T / 16 * 16 = omega arith in
     (c.add_short.ensures.0, with_last (F full) (i full) T (S full) T (λ e. none) (full_is full) (ap (λ (n : ℕ). drop n T) at) (last_is full _ _ T c.add_short.ensures.1)))
-    (λ c. let full = c.before.before in (full.add_full-full.ensures.0, full_is full ∙ ap (λ (X : Bytes). S full ⊕ X) (sym (hash_full (F full) (i full) (t (start full)) (λ e. omega arith) (omega arith)))))
+    (λ c.
+    let full = c.before.before in
+    (full.add_full-full.ensures.0, full_is full ∙ ap (λ (X : Bytes). S full ⊕ X) (sym (hash_full (F full) (i full) (t (start full)) (λ e. omega arith) (omega arith)))))
     (λ c. search rules)
     (λ c. search rules)
     (λ c. search rules)
