@@ -1,8 +1,9 @@
--- Every public function of every crate of the library is determined by its contract (the exports of `aez_c` have the clauses of `aez`): any two results that the contract allows for the same arguments are
--- equal, and so are any two contents of the lent buffer at exit. Where the contract speaks of what the words of a result mean, as in
--- `circuit`, `sub_bytes`, `sixteen`, `strings`, `halves` and `turns`, that meaning is what is determined. `Learnt` is a function's contract
--- as its callers have it: the checker makes it from the `ensures` in the source. In each theorem κs are lifetimes, a the arguments, z and w
--- two results, e and f the parameters at two exits.
+-- Every public function of every crate of the library is determined by its contract: any two results that the contract allows for the same
+-- arguments are equal, and so are any two contents of the lent buffer at exit. An export of `aez_c` has the contract of the function of
+-- `aez`, by that crate's own `Exports.antt`. Where the contract speaks of what the words of a result mean, as in `circuit`, `sub_bytes`,
+-- `sixteen`, `strings`, `halves` and `turns`, that meaning is what is determined. `Learnt` is a function's contract as its callers have it:
+-- the checker makes it from the `ensures` in the source. In each theorem κs are lifetimes, a the arguments, z and w two results, e and f the
+-- parameters at two exits.
 use mathlib.Core.List.{List, [], map}
 use mathlib.Core.Option.{Option, none, some}
 use mathlib.Core.Path.{◌≡◌, refl, ap, sym, ◌∙◌}
