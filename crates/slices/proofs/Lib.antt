@@ -1,2 +1,1 @@
 mod Same
-mod Stores

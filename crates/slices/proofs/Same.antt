@@ -1,15 +1,9 @@
 -- Gathering what differs tells whether two strings are equal.
-use mathlib.Core.Bool.{Bool, true, false, ◌&&◌, and-true, and_assoc}
-use mathlib.Core.List.{List, [], ◌∷◌, ◌++◌}
-use mathlib.Core.Path.{◌≡◌, refl, ap, ap₂, sym, ◌∙◌}
-use Prim.Native.Nat.{ℕ, ◌+◌, ◌<◌}
-use native.Mathlib.Numerals.{add-one}
-use native.Mathlib.Omega.{arith}
+use Rattle.std.proofs.Common.{◌≡◌, ℕ, ◌&&◌, List, [], ◌∷◌, length, bit_or, bit_xor, Bool, true, false, eqb, refl, sym, ap, ap₂, ◌∙◌, arith}
+use Rattle.std.specs.List.{fold, zip}
+use mathlib.Core.Bool.{and-true, and_assoc}
 use borrow.Author.Tests.{eq-eqb, ne_eqb, eqb-true, eqb-false}
-use lib.Bits.{bit_or, bit_xor, or_add_and, xor_add_and, and_le_l, and_le_r, xor_self}
-use lib.Dec.{eqb}
-use lib.ListN.{length, take, get_or, length-take}
-use lib.Seq.{take-suc}
+use lib.Bits.{or_add_and, xor_add_and, and_le_l, and_le_r, xor_self}
 use Rattle.paper.specs.Strings.{same}
 
 -- two bytes that do not differ are equal
@@ -34,19 +28,14 @@ gathered f x y = go (eqb f 0) (eqb x y) refl refl
     go false b p q =
         ne_eqb _ 0 (λ e. eqb-false f 0 p (or_none f (bit_xor x y) e).0) ∙ sym (ap₂ ◌&&◌ p q)
 
--- one more pair of bytes at the end of two strings of one length
-same_more : (X Y : List ℕ) (x y : ℕ) → length X ≡ length Y → same (X ++ x ∷ []) (Y ++ y ∷ []) ≡ (same X Y && eqb x y)
+-- what differs in two strings of one length, gathered on top of f
+pub fold_differences : (f : ℕ) (a b : List ℕ) → length a ≡ length b
+    → eqb (fold (λ (g : ℕ) (p : ℕ × ℕ). bit_or g (bit_xor p.0 p.1)) f (zip a b)) 0 ≡ (eqb f 0 && same a b)
 unfolding same
-same_more [] [] x y e = and-true (eqb x y)
-same_more [] (b ∷ Y) x y e = absurd (omega (arith, e))
-same_more (a ∷ X) [] x y e = absurd (omega (arith, e))
-same_more (a ∷ X) (b ∷ Y) x y e = ap (λ (t : Bool). eqb a b && t) (same_more X Y x y (omega (arith, e))) ∙ sym (and_assoc (eqb a b) (same X Y) (eqb x y))
-
--- a step of the loop: f is what was gathered of the first i bytes
-pub step : (a b : List ℕ) (f i : ℕ) → length a ≡ length b → i < length a → eqb f 0 ≡ same (take i a) (take i b)
-    → eqb (bit_or f (bit_xor (get_or a i 0) (get_or b i 0))) 0 ≡ same (take (i + 1) a) (take (i + 1) b)
-step a b f i long h p =
-    gathered f (get_or a i 0) (get_or b i 0)
-    ∙ ap (λ (t : Bool). t && eqb (get_or a i 0) (get_or b i 0)) p
-    ∙ sym (same_more (take i a) (take i b) (get_or a i 0) (get_or b i 0) (simp length-take (omega (arith, long))))
-    ∙ sym (ap₂ same (ap (λ (n : ℕ). take n a) (add-one i) ∙ take-suc a i 0 h) (ap (λ (n : ℕ). take n b) (add-one i) ∙ take-suc b i 0 (omega (arith, long))))
+fold_differences f [] [] e = sym (and-true (eqb f 0))
+fold_differences f [] (y ∷ b) e = absurd (omega (arith, e))
+fold_differences f (x ∷ a) [] e = absurd (omega (arith, e))
+fold_differences f (x ∷ a) (y ∷ b) e =
+    fold_differences (bit_or f (bit_xor x y)) a b (omega (arith, e))
+    ∙ ap (λ (t : Bool). t && same a b) (gathered f x y)
+    ∙ and_assoc (eqb f 0) (eqb x y) (same a b)

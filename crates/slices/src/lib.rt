@@ -9,13 +9,7 @@ pub fn load(s: &[u8], at: usize) -> [u8; 16]
     requires { at + 16 ≤ length s.now }
     ensures { result ≡ take 16 (drop at s.now) }
 {
-    let mut r = [0u8; 16];
-    let mut i: usize = 0;
-    while i < 16 {
-        r[i] = s[at + i];
-        i += 1;
-    }
-    r
+    s[at..at + 16].try_into().unwrap()
 }
 
 // The block b put at a place of s, and every other byte of s kept.
@@ -23,11 +17,7 @@ pub fn store(s: &mut [u8], at: usize, b: [u8; 16])
     requires { at + 16 ≤ length s.old }
     ensures { s.new ≡ take at s.old ++ b ++ drop (at + 16) s.old }
 {
-    let mut i: usize = 0;
-    while i < 16 {
-        s[at + i] = b[i];
-        i += 1;
-    }
+    s[at..at + 16].copy_from_slice(&b);
 }
 
 // The bytes t put at a place of s, and every other byte of s kept.
@@ -35,20 +25,14 @@ pub fn copy(s: &mut [u8], at: usize, t: &[u8])
     requires { at + length t.now ≤ length s.old }
     ensures { s.new ≡ take at s.old ++ t.now ++ drop (at + length t.now) s.old }
 {
-    let mut i: usize = 0;
-    while i < t.len() {
-        s[at + i] = t[i];
-        i += 1;
-    }
+    s[at..at + t.len()].copy_from_slice(t);
 }
 
 // Zero for every byte of s.
 pub fn clear(s: &mut [u8])
     ensures { s.new ≡ replicate (length s.old) 0 }
 {
-    for i in 0..s.len() {
-        s[i] = 0;
-    }
+    s.fill(0);
 }
 
 // Whether two strings of one length are equal. Every byte is looked at, whatever is found: what differs is gathered, and asked about once.
@@ -56,11 +40,5 @@ pub fn same_bytes(a: &[u8], b: &[u8]) -> bool
     requires { length a.now ≡ length b.now }
     ensures { result ≡ same a.now b.now }
 {
-    let mut found: u8 = 0;
-    let mut i: usize = 0;
-    while i < a.len() {
-        found = found | (a[i] ^ b[i]);
-        i += 1;
-    }
-    found == 0
+    a.iter().zip(b).fold(0, |found, (x, y)| found | (x ^ y)) == 0
 }
