@@ -2,6 +2,7 @@
 
 -- lists, strings, bits
 pub mod Tables
+pub mod Made
 pub mod Fronts
 pub mod Placed
 pub mod Counts

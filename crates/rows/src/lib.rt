@@ -5,6 +5,8 @@
 ghost use Rattle.std.specs.Prelude.{◌≡◌, ◌<◌};
 ghost use Rattle.rows.specs.Rows.{turned_row, xor_row, doubled_row, mixed_row};
 
+use std::array::from_fn;
+
 // A row on planes.
 pub type Row = [u64; 8];
 
@@ -14,33 +16,14 @@ pub fn turned(a: Row, n: u32) -> Row
     requires n_bound { n < 64 }
     ensures { result ≡ turned_row a n }
 {
-    let m = 64 - n;
-    [
-        (a[0] >> n) | (a[0] << m),
-        (a[1] >> n) | (a[1] << m),
-        (a[2] >> n) | (a[2] << m),
-        (a[3] >> n) | (a[3] << m),
-        (a[4] >> n) | (a[4] << m),
-        (a[5] >> n) | (a[5] << m),
-        (a[6] >> n) | (a[6] << m),
-        (a[7] >> n) | (a[7] << m),
-    ]
+    from_fn(|p| a[p].rotate_right(n))
 }
 
 // a ⊕ b.
 fn xor(a: Row, b: Row) -> Row
     ensures { result ≡ xor_row a b }
 {
-    [
-        a[0] ^ b[0],
-        a[1] ^ b[1],
-        a[2] ^ b[2],
-        a[3] ^ b[3],
-        a[4] ^ b[4],
-        a[5] ^ b[5],
-        a[6] ^ b[6],
-        a[7] ^ b[7],
-    ]
+    from_fn(|p| a[p] ^ b[p])
 }
 
 // Each byte of a row by 2: the planes move up by one, and the highest goes to the planes of 1b.
@@ -52,12 +35,9 @@ fn doubled(a: Row) -> Row
 }
 
 // MixColumns for row a, with the rows b, c and d below it. 2(a ⊕ b) ⊕ b is 2a ⊕ 3b.
+#[tactic(auto, unfolding(crate::specs::Rows::mixed_row))]
 pub fn mixed(a: Row, b: Row, c: Row, d: Row) -> Row
     ensures { result ≡ mixed_row a b c d }
 {
-    let pair = xor(a, b);
-    let others = xor(c, d);
-    let twice = doubled(pair);
-    let thrice = xor(twice, b);
-    xor(thrice, others)
+    xor(xor(doubled(xor(a, b)), b), xor(c, d))
 }
