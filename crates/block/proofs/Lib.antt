@@ -1,1 +1,3 @@
 pub mod Arrays
+pub mod Made
+mod Numbers

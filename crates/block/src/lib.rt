@@ -4,17 +4,13 @@
 ghost use Rattle.std.specs.Prelude.{◌≡◌, ◌<◌, length};
 ghost use Rattle.paper.specs.Strings.{◌⊕◌, pad10*, number};
 
+use std::array;
+
 // a ⊕ b.
 pub fn xor(a: [u8; 16], b: [u8; 16]) -> [u8; 16]
     ensures { result ≡ a ⊕ b }
 {
-    let mut r = [0u8; 16];
-    let mut i: usize = 0;
-    while i < 16 {
-        r[i] = a[i] ^ b[i];
-        i += 1;
-    }
-    r
+    array::from_fn(|i| a[i] ^ b[i])
 }
 
 // s10*, for a string of less than 16 bytes.
@@ -22,13 +18,9 @@ pub fn pad(s: &[u8]) -> [u8; 16]
     requires { length s.now < 16 }
     ensures { result ≡ pad10* s.now }
 {
-    let mut r = [0u8; 16];
-    let mut i: usize = 0;
-    while i < s.len() {
-        r[i] = s[i];
-        i += 1;
-    }
-    r[i] = 128;
+    let mut r = [0; 16];
+    r[..s.len()].copy_from_slice(s);
+    r[s.len()] = 128;
     r
 }
 
@@ -36,22 +28,5 @@ pub fn pad(s: &[u8]) -> [u8; 16]
 pub fn number(n: u64) -> [u8; 16]
     ensures { result ≡ number n }
 {
-    [
-        0,
-        0,
-        0,
-        0,
-        0,
-        0,
-        0,
-        0,
-        (n / 72057594037927936 % 256) as u8,
-        (n / 281474976710656 % 256) as u8,
-        (n / 1099511627776 % 256) as u8,
-        (n / 4294967296 % 256) as u8,
-        (n / 16777216 % 256) as u8,
-        (n / 65536 % 256) as u8,
-        (n / 256 % 256) as u8,
-        (n % 256) as u8,
-    ]
+    u128::from(n).to_be_bytes()
 }
