@@ -11,54 +11,35 @@ ghost use Rattle.std.specs.Prelude.{◌<◌, ◌≤◌, length};
 use answer::{Answer, AnswerAt, StretchBytes};
 use std::io::{self, ErrorKind, Read};
 
-// The value of a hex digit.
+// The value of a hex digit, and 0 for any other byte.
 fn nibble(c: u8) -> u8
     ensures { result < 16 }
 {
-    if c < 48 {
-        return 0;
+    match c {
+        b'0'..=b'9' => c - b'0',
+        b'a'..=b'f' => c - b'a' + 10,
+        _ => 0,
     }
-    if c < 58 {
-        return c - 48;
-    }
-    if c < 97 {
-        return 0;
-    }
-    if c < 103 {
-        return c - 87;
-    }
-    0
 }
 
 // The hex digit of a byte's lower half.
 fn digit(n: u8) -> u8 {
-    let d = n % 16;
-    if d < 10 {
-        return 48 + d;
+    match n % 16 {
+        d @ 0..=9 => b'0' + d,
+        d => b'a' + (d - 10),
     }
-    87 + d
 }
 
 // The number of some hex digits, of which the last sixteen count.
 fn number(s: &[u8]) -> u64 {
-    let mut n: u64 = 0;
-    let mut i: usize = 0;
-    while i < s.len() {
-        let d = nibble(s[i]);
-        n = n % 1152921504606846976 * 16 + d as u64;
-        i += 1;
-    }
-    n
+    s.iter()
+        .fold(0, |n, &c| (n % (1 << 60)) * 16 + u64::from(nibble(c)))
 }
 
 // The bytes of hex digits, two for each byte, put first.
 fn unhex(s: &mut [u8]) {
-    let mut i: usize = 0;
-    while i < s.len() / 2 {
-        let high = nibble(s[2 * i]);
-        let low = nibble(s[2 * i + 1]);
-        s[i] = high * 16 + low;
-        i += 1;
+    for i in 0..s.len() / 2 {
+        s[i] = nibble(s[2 * i]) * 16 + nibble(s[2 * i + 1]);
     }
 }
 
@@ -73,21 +54,14 @@ fn read_full(input: &mut impl Read, s: &mut [u8]) -> io::Result<bool> {
 
 // Reads a line of hex digits for n bytes, which are put into s from there on.
 fn field(input: &mut impl Read, n: usize, at: usize, s: &mut [u8]) -> io::Result<bool> {
-    if 65600 < n {
+    if 65600 < n || s.len() < at || s.len() - at < 2 * n + 1 {
         return Ok(false);
     }
-    if s.len() < at {
+    let line = &mut s[at..at + 2 * n + 1];
+    if !read_full(input, line)? {
         return Ok(false);
     }
-    let k = 2 * n + 1;
-    if s.len() - at < k {
-        return Ok(false);
-    }
-    let e = at + k;
-    if !read_full(input, &mut s[at..e])? {
-        return Ok(false);
-    }
-    unhex(&mut s[at..e]);
+    unhex(line);
     Ok(true)
 }
 
@@ -95,16 +69,13 @@ fn field(input: &mut impl Read, n: usize, at: usize, s: &mut [u8]) -> io::Result
 fn to_hex(s: &[u8], line: &mut [u8]) -> usize
     ensures { result ≤ length line.new }
 {
-    let mut i: usize = 0;
-    let mut j: usize = 0;
-    while i < s.len() {
+    let mut j = 0;
+    for b in s {
         if line.len() - j < 2 {
             return j;
         }
-        let b = s[i];
         line[j] = digit(b / 16);
-        line[j + 1] = digit(b);
-        i += 1;
+        line[j + 1] = digit(*b);
         j += 2;
     }
     j
@@ -146,27 +117,20 @@ fn first_line(s: [u8; 64]) -> First {
 
 // Reads the strings of a vector, each to its place; answers whether they were there.
 fn strings(input: &mut impl Read, v: First, s: &mut [u8]) -> io::Result<bool> {
-    if !field(input, v.a, 0, s)? {
-        return Ok(false);
-    }
-    if !field(input, v.b, 65600, s)? {
-        return Ok(false);
-    }
-    if !field(input, v.c, 131200, s)? {
-        return Ok(false);
-    }
-    field(input, v.d, 196800, s)
+    Ok(
+        field(input, v.a, 0, s)?
+            && field(input, v.b, 65600, s)?
+            && field(input, v.c, 131200, s)?
+            && field(input, v.d, 196800, s)?,
+    )
 }
 
 // The n bytes of s from there on, or none where s has not as many.
 fn part(s: &[u8], at: usize, n: usize) -> &[u8] {
-    if s.len() < at {
-        return &s[0..0];
+    match s.get(at..) {
+        Some(rest) => rest.get(..n).unwrap_or(&[]),
+        None => &[],
     }
-    if s.len() - at < n {
-        return &s[0..0];
-    }
-    &s[at..at + n]
 }
 
 // What a vector has of an answer: the number and the length.
@@ -182,13 +146,11 @@ fn call(v: First, s: &[u8], out: &mut [u8]) -> Answer {
     let a = part(s, 0, v.a);
     let b = part(s, 65600, v.b);
     let c = part(s, 131200, v.c);
-    if v.which == b's' {
-        return without_place(record::seal(a, b, StretchBytes(v.stretch), c, out));
+    match v.which {
+        b's' => without_place(record::seal(a, b, StretchBytes(v.stretch), c, out)),
+        b'o' => without_place(record::open(a, b, StretchBytes(v.stretch), c, out)),
+        _ => builder::log_header(a, b, c, part(s, 196800, v.d), out),
     }
-    if v.which == b'o' {
-        return without_place(record::open(a, b, StretchBytes(v.stretch), c, out));
-    }
-    builder::log_header(a, b, c, part(s, 196800, v.d), out)
 }
 
 // Makes the call of a vector, and shows what came of it.
@@ -225,12 +187,10 @@ fn vector(rt: &impl Print, input: &mut impl Read) -> io::Result<bool> {
 // A proved loop has to end, and nothing says that the input does: the turns are counted.
 fn main(rt: HostRuntime) -> io::Result<()> {
     let mut input = rt.reader();
-    let mut turns: u32 = 0;
-    while turns < 100000 {
+    for _ in 0..100000 {
         if !vector(&rt, &mut input)? {
-            return Ok(());
+            break;
         }
-        turns += 1;
     }
     Ok(())
 }

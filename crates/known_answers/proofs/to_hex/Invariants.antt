@@ -1,9 +1,6 @@
--- `known_answers::to_hex` is safe and ends.
-use Rattle.std.proofs.Common.{◌-◌, ◌≤◌, ◌≡◌, length}
+-- What is put never passes the line's end.
+use Rattle.std.proofs.Common.{◌≤◌, length}
 use Rattle.known_answers.proofs.to_hex.Given as goal
 
-abbrev pub invariant-loop-i : goal.invariant-loop-i
-invariant-loop-i l = (l.i ≤ length l.s) × (l.j ≤ length l.line) × (length l.line ≡ length l.initial.line)
-
-abbrev pub decreases-loop-i : goal.decreases-loop-i
-decreases-loop-i l = length l.s - l.i
+abbrev pub invariant-loop-b : goal.invariant-loop-b
+invariant-loop-b l = l.j ≤ length l.line
