@@ -41,10 +41,8 @@ use Rattle.slices.proofs.store.Reads as slices-store
 use Rattle.slices.proofs.copy.Reads as slices_copy
 use Rattle.slices.proofs.clear.Reads as slices-clear
 use Rattle.slices.proofs.same_bytes.Reads as slices-same-bytes
-use Rattle.numbers.proofs.two.Reads as numbers-two
-use Rattle.numbers.proofs.four.Reads as numbers-four
-use Rattle.numbers.proofs.put_two.Reads as numbers-put-two
-use Rattle.numbers.proofs.put_four.Reads as numbers-put-four
+use Rattle.numbers.proofs.read.Reads as numbers-read
+use Rattle.numbers.proofs.put.Reads as numbers-put
 use Rattle.columns.proofs.column.Reads as columns-column
 use Rattle.columns.proofs.of_block.Reads as columns-of-block
 use Rattle.columns.proofs.to_block.Reads as columns-to-block
@@ -254,17 +252,11 @@ slices_same_bytes_determined κs a z w e f p q = one p q
 
 -- ---- Numbers in bytes: `numbers`
 
-pub numbers_two_determined : (κs : _) (a : _) (z w : _) (e f : _) → numbers-two.Learnt κs a z e → numbers-two.Learnt κs a w f → z ≡ w
-numbers_two_determined κs a z w e f p q = one p.0 q.0
+pub numbers_read_determined : (N : _) (h : _) (κs : _) (a : _) (z w : _) (e f : _) → numbers-read.Learnt N h κs a z e → numbers-read.Learnt N h κs a w f → z ≡ w
+numbers_read_determined N h κs a z w e f p q = one p.0 q.0
 
-pub numbers_four_determined : (κs : _) (a : _) (z w : _) (e f : _) → numbers-four.Learnt κs a z e → numbers-four.Learnt κs a w f → z ≡ w
-numbers_four_determined κs a z w e f p q = one p.0 q.0
-
-pub numbers_put_two_determined : (κs : _) (a : _) (z w : _) (e f : _) → numbers-put-two.Learnt κs a z e → numbers-put-two.Learnt κs a w f → e.0.now ≡ f.0.now
-numbers_put_two_determined κs a z w e f p q = one p q
-
-pub numbers_put_four_determined : (κs : _) (a : _) (z w : _) (e f : _) → numbers-put-four.Learnt κs a z e → numbers-put-four.Learnt κs a w f → e.0.now ≡ f.0.now
-numbers_put_four_determined κs a z w e f p q = one p q
+pub numbers_put_determined : (N : _) (h : _) (κs : _) (a : _) (z w : _) (e f : _) → numbers-put.Learnt N h κs a z e → numbers-put.Learnt N h κs a w f → e.0.now ≡ f.0.now
+numbers_put_determined N h κs a z w e f p q = one p q
 
 -- ---- Blocks of columns: `columns`
 

@@ -50,7 +50,7 @@ pub fn put(out: &mut [u8], at: usize, s: &[u8]) -> usize
     ensures { (result ≡ at + length (write_strings (s.now ∷ []))) × (out.new ≡ placed at (write_strings (s.now ∷ [])) out.old) }
 {
     let size = s.len();
-    numbers::put_two(out, at, size);
+    numbers::put::<2>(out, at, size);
     slices::copy(out, at + 2, s);
     at + 2 + size
 }

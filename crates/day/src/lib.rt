@@ -31,7 +31,7 @@ fn records_right(file: &[u8], headers: usize, records: usize, first: usize) -> b
         let Step::To(e) = day_steps::record_at(file, headers, at) else {
             return false;
         };
-        if numbers::four(file, place) != at {
+        if numbers::read::<4>(file, place) != at {
             return false;
         }
         at = e.end;
@@ -41,7 +41,7 @@ fn records_right(file: &[u8], headers: usize, records: usize, first: usize) -> b
     if file.len() - at != 4 + 4 * records {
         return false;
     }
-    numbers::four(file, at) == records
+    numbers::read::<4>(file, at) == records
 }
 
 // Whether a file reads, in one pass over it.
@@ -54,14 +54,14 @@ pub fn check(file: &[u8]) -> Checked
     if 65536 < file.len() {
         return Checked::Bad;
     }
-    let headers = numbers::four(file, 0);
+    let headers = numbers::read::<4>(file, 0);
     let Walk::To(end) = day_steps::headers_end(file, headers) else {
         return Checked::Bad;
     };
     if file.len() - end < 4 {
         return Checked::Bad;
     }
-    let records = numbers::four(file, end);
+    let records = numbers::read::<4>(file, end);
     let first = end + 4;
     if file.len() < 4 * records {
         return Checked::Bad;

@@ -22,7 +22,7 @@ pub fn entry_of(file: &[u8], records: usize, k: usize) -> Entry
     requires { (records ≡ records_in (read_day file.now)) × (k < records) }
     ensures { (result ≡ entry_in (read_day file.now) k) × (result.header < headers_in (read_day file.now)) }
 {
-    let place = numbers::four(file, file.len() - 4 * records + 4 * k);
+    let place = numbers::read::<4>(file, file.len() - 4 * records + 4 * k);
     day_steps::entry_at(file, place)
 }
 
@@ -35,7 +35,7 @@ pub fn place_from(file: &[u8], from: usize, at: usize, number: usize) -> usize
     let mut place = at;
     let mut i = from;
     while i < number {
-        place = place + 2 + numbers::two(file, place);
+        place = place + 2 + numbers::read::<2>(file, place);
         i += 1;
     }
     place
@@ -52,7 +52,7 @@ pub fn find_from(file: &[u8], records: usize, k: usize, from: usize, at: usize) 
     let header = e.header;
     let place = place_from(file, from, at, header);
     let header_start = place + 2;
-    let header_end = header_start + numbers::two(file, place);
+    let header_end = header_start + numbers::read::<2>(file, place);
     Found {
         header_start,
         header_end,

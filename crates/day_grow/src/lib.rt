@@ -24,7 +24,7 @@ fn put_last(
 {
     day_put::put_record(out, at, number, stretch as usize, sealed);
     day_place::put_index(out, first, records + 1, at + 7 + sealed.len());
-    numbers::put_four(out, first - 4, records + 1);
+    numbers::put::<4>(out, first - 4, records + 1);
 }
 
 // The grown file put first in the buffer that holds the file.
@@ -51,7 +51,7 @@ pub fn put_grown(
     let more = 2 + header.len();
     day_place::move_right(out, end + more, end, last - end);
     builder::put(out, end, header);
-    numbers::put_four(out, 0, headers + 1);
+    numbers::put::<4>(out, 0, headers + 1);
     put_last(
         out,
         records,

@@ -35,7 +35,7 @@ fn list_headers(file: &[u8], headers: usize, places: &mut [u64])
     let mut i: usize = 0;
     while i < headers {
         let start = at + 2;
-        let end = start + numbers::two(file, at);
+        let end = start + numbers::read::<2>(file, at);
         put_two(places, 2 * i, start as u64, end as u64);
         at = end;
         i += 1;

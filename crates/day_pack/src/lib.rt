@@ -156,7 +156,7 @@ fn pack_headers(out: &mut [u8], headers: usize, table: &[u8; 1638]) -> usize
     let mut to: usize = 4;
     let mut i: usize = 0;
     while i < headers {
-        let n = 2 + numbers::two(out, from);
+        let n = 2 + numbers::read::<2>(out, from);
         to = move_kept(out, to, from, n, bit(table, i));
         from += n;
         i += 1;
@@ -182,7 +182,7 @@ fn put_kept(
         return to;
     }
     let n = count(table, before, number);
-    numbers::put_two(out, to, n);
+    numbers::put::<2>(out, to, n);
     day_place::move_left(out, to + 2, from + 2, end - (from + 2));
     to + (end - from)
 }
@@ -235,9 +235,9 @@ fn put_marked(
     let last = size - 4 - 4 * records;
     let mut before = [0usize; 205];
     let named = tally(table, headers, &mut before);
-    numbers::put_four(out, 0, named);
+    numbers::put::<4>(out, 0, named);
     let to = pack_headers(out, headers, table);
-    numbers::put_four(out, to, kept);
+    numbers::put::<4>(out, to, kept);
     let start = to + 4;
     let end = pack_records(out, first, records, last, start, dropped, table, &before);
     day_place::put_index(out, start, kept, end);

@@ -40,7 +40,7 @@ fn put_places(out: &mut [u8], first: usize, records: usize, at: usize)
     let mut place = first;
     let mut i: usize = 0;
     while i < records {
-        numbers::put_four(out, at + 4 + 4 * i, place);
+        numbers::put::<4>(out, at + 4 + 4 * i, place);
         let e = day_steps::entry_at(&out[..at], place);
         place = e.end;
         i += 1;
@@ -53,5 +53,5 @@ pub fn put_index(out: &mut [u8], first: usize, records: usize, at: usize)
     ensures { out.new ≡ placed at (digits 256 4 records ++ write_places (places_of (take at out.old) first records)) out.old }
 {
     put_places(out, first, records, at);
-    numbers::put_four(out, at, records);
+    numbers::put::<4>(out, at, records);
 }

@@ -29,9 +29,9 @@ pub fn put_record(out: &mut [u8], at: usize, number: usize, stretch: usize, seal
     requires { (stretch < 256) × (at + 7 + length sealed.now ≤ length out.old) }
     ensures { out.new ≡ placed at (write_record (record_with number stretch sealed.now)) out.old }
 {
-    numbers::put_two(out, at, number);
+    numbers::put::<2>(out, at, number);
     out[at + 2] = stretch as u8;
-    numbers::put_four(out, at + 3, sealed.len());
+    numbers::put::<4>(out, at + 3, sealed.len());
     slices::copy(out, at + 7, sealed);
 }
 
@@ -76,7 +76,7 @@ pub fn put_places(sizes: &[u64], first: usize, out: &mut [u8], start: usize)
     let mut place = first;
     let mut i: usize = 0;
     while i < sizes.len() {
-        numbers::put_four(out, start + 4 * i, place);
+        numbers::put::<4>(out, start + 4 * i, place);
         place = place + 7 + sizes[i] as usize;
         i += 1;
     }

@@ -38,7 +38,7 @@ fn header_at(file: &[u8], at: usize) -> Place
     if file.len() - at < 2 {
         return Place::Bad;
     }
-    let size = numbers::two(file, at);
+    let size = numbers::read::<2>(file, at);
     let start = at + 2;
     if file.len() - start < size {
         return Place::Bad;
@@ -55,10 +55,10 @@ pub fn entry_at(file: &[u8], at: usize) -> Entry
     requires { (at + 7 ≤ length file.now) × (length file.now ≤ 65536) }
     ensures { (result ≡ entry_at file.now at) × (result.header < 65536) }
 {
-    let header = numbers::two(file, at);
+    let header = numbers::read::<2>(file, at);
     let stretch = file[at + 2] as u64;
     let start = at + 7;
-    let end = start + numbers::four(file, at + 3);
+    let end = start + numbers::read::<4>(file, at + 3);
     Entry {
         header,
         stretch,

@@ -78,12 +78,12 @@ pub fn write(
     if number != 0 {
         return Answer { number, length: 0 };
     }
-    numbers::put_four(out, 0, lengths.len());
+    numbers::put::<4>(out, 0, lengths.len());
     let end = day_put::put_headers(lengths, headers, out, 4);
-    numbers::put_four(out, end, sizes.len());
+    numbers::put::<4>(out, end, sizes.len());
     let first = end + 4;
     let index = day_put::put_records(lengths.len(), numbers, stretches, sizes, sealed, out, first);
-    numbers::put_four(out, index, sizes.len());
+    numbers::put::<4>(out, index, sizes.len());
     day_put::put_places(sizes, first, out, index + 4);
     let length = size(lengths.len(), headers.len(), sizes.len(), sealed.len());
     Answer { number, length }

@@ -23,10 +23,10 @@ together s out behind last at p two e =
     ∙ placed_then at (digits 256 2 (length s)) s out (omega arith)
     ∙ ap (λ (w : Bytes). placed at w out) (sym (write_one s))
 
-abbrev two : tie.After-copy → tie.After-put_two
+abbrev two : tie.After-copy → tie.After-put
 two c = c.before.before.before.before
 
-abbrev start : tie.After-put_two → tie.Start
+abbrev start : tie.After-put → tie.Start
 start c = c.before.before.before.before
 
 returns : tie.Need-returns
@@ -35,7 +35,7 @@ returns c =
     let put = two copied in
     let s = start put in
     let a = s.args in
-    (omega (arith, one_long a.s.now), together a.s.now a.out.now put.put_two.new.out copied.copy.new.s a.at s.requires put.put_two.ensures copied.copy.ensures)
+    (omega (arith, one_long a.s.now), together a.s.now a.out.now put.put.new.out copied.copy.new.s a.at s.requires put.put.ensures copied.copy.ensures)
 
 pub put_spec : {M : Type 1} → statement M
 put_spec =

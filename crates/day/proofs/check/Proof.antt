@@ -12,7 +12,7 @@ use Rattle.day.proofs.check.Statement.{statement}
 use Rattle.day.proofs.check.Tie as tie
 
 -- what is known of the file once its headers are counted
-module _ (c : tie.After-four-headers) where
+module _ (c : tie.After-read-headers) where
   abbrev f : Bytes
   f = c.args.file.now
 
@@ -20,11 +20,11 @@ module _ (c : tie.After-four-headers) where
   low = below_of 256 f (λ i p. omega (arith, c.shared_slice_known-1.given i))
 
   abbrev n : ℕ
-  n = c.four-headers.result
+  n = c.read-headers.result
 
 -- and once they are passed
 module _ (c : tie.In-To) where
-  abbrev counted : tie.After-four-headers
+  abbrev counted : tie.After-read-headers
   counted = c.before.before
 
   abbrev end : ℕ
@@ -40,7 +40,7 @@ returns-in_default : tie.Need-returns-in_default
 returns-in_default c =
     let w = c.before in
     let h = w.before in
-    headers_bad (f h) (low h) (omega arith) (omega arith) (n h) h.four-headers.ensures.0 (rw c.in_default.is at w.headers_end.ensures)
+    headers_bad (f h) (low h) (omega arith) (omega arith) (n h) h.read-headers.ensures.0 (rw c.in_default.is at w.headers_end.ensures)
 
 overflow_sub-file : tie.Need-overflow_sub-file
 overflow_sub-file c = (walked c).0
@@ -50,7 +50,7 @@ returns-then-file-end-lt4 c =
     let t = c.before in
     let h = counted t in
     let w = walked t in
-    records_few (f h) (low h) (omega arith) (omega arith) (n h) h.four-headers.ensures.0 (end t) w.0 w.1.0 w.1.1 c.if-file-end-lt4.true
+    records_few (f h) (low h) (omega arith) (omega arith) (n h) h.read-headers.ensures.0 (end t) w.0 w.1.0 w.1.1 c.if-file-end-lt4.true
 
 returns-then-file-records : tie.Need-returns-then-file-records
 returns-then-file-records c =
@@ -58,7 +58,7 @@ returns-then-file-records c =
     let t = m.before.before in
     let h = counted t in
     let w = walked t in
-    too_many (f h) (low h) (omega arith) (omega arith) (n h) h.four-headers.ensures.0 (end t) w.0 w.1.0 w.1.1 m.if-file-end-lt4.false m.four-records.result m.four-records.ensures.0 c.if-file-records.true
+    too_many (f h) (low h) (omega arith) (omega arith) (n h) h.read-headers.ensures.0 (end t) w.0 w.1.0 w.1.1 m.if-file-end-lt4.false m.read-records.result m.read-records.ensures.0 c.if-file-records.true
 
 returns-then-records_right : tie.Need-returns-then-records_right
 returns-then-records_right c =
@@ -67,7 +67,7 @@ returns-then-records_right c =
     let t = m.before.before in
     let h = counted t in
     let w = walked t in
-    file_reads (f h) (low h) (omega arith) (omega arith) (n h) h.four-headers.ensures.0 (end t) w.0 w.1.0 w.1.1 m.if-file-end-lt4.false m.four-records.result m.four-records.ensures.0 (sym r.records_right.ensures ∙ c.if-records_right.true)
+    file_reads (f h) (low h) (omega arith) (omega arith) (n h) h.read-headers.ensures.0 (end t) w.0 w.1.0 w.1.1 m.if-file-end-lt4.false m.read-records.result m.read-records.ensures.0 (sym r.records_right.ensures ∙ c.if-records_right.true)
 
 returns : tie.Need-returns
 returns c =
@@ -76,7 +76,7 @@ returns c =
     let t = m.before.before in
     let h = counted t in
     let w = walked t in
-    file_bad (f h) (low h) (omega arith) (omega arith) (n h) h.four-headers.ensures.0 (end t) w.0 w.1.0 w.1.1 m.if-file-end-lt4.false m.four-records.result m.four-records.ensures.0 (sym r.records_right.ensures ∙ c.if-records_right.false)
+    file_bad (f h) (low h) (omega arith) (omega arith) (n h) h.read-headers.ensures.0 (end t) w.0 w.1.0 w.1.1 m.if-file-end-lt4.false m.read-records.result m.read-records.ensures.0 (sym r.records_right.ensures ∙ c.if-records_right.false)
 
 pub check_spec : {M : Type 1} → statement M
 check_spec =

@@ -68,7 +68,7 @@ loop-left-preserved c =
     let at_loop = looped (read told) in
     let l = at_loop.loop-left in
     let a = (start at_loop).args in
-    ((step told).1, omega arith, omega arith, l.invariant.3 ∙ records_turn a.file.now (low at_loop.before) (start at_loop).requires.1 a.records a.headers l.left l.at l.place (omega arith) l.invariant.0 (omega arith) (e told) (step told) (sym c.four.ensures.0 ∙ (omega arith)))
+    ((step told).1, omega arith, omega arith, l.invariant.3 ∙ records_turn a.file.now (low at_loop.before) (start at_loop).requires.1 a.records a.headers l.left l.at l.place (omega arith) l.invariant.0 (omega arith) (e told) (step told) (sym c.read.ensures.0 ∙ (omega arith)))
 
 returns-then-file-at : tie.Need-returns-then-file-at invariant-loop-left decreases-loop-left
 returns-then-file-at c =
@@ -82,7 +82,7 @@ returns c =
     let at_loop = c.before.before.before in
     let l = at_loop.loop-left in
     let a = (start at_loop).args in
-    ap (λ (n : ℕ). eqb n a.records) c.four-2.ensures.0
+    ap (λ (n : ℕ). eqb n a.records) c.read-2.ensures.0
     ∙ sym (l.invariant.3 ∙ count_last a.file.now (low at_loop.before) (start at_loop).requires.1 a.records a.headers l.left l.at l.place c.loop-left-test.false l.invariant.0 (omega arith) c.if-file-at.false)
 
 pub records_right_spec : {M : Type 1} → statement M
@@ -104,7 +104,7 @@ records_right_spec =
     let at_loop = looped (read told) in
     let l = at_loop.loop-left in
     let a = (start at_loop).args in
-    sym (l.invariant.3 ∙ records_wrong a.file.now (low at_loop.before) (start at_loop).requires.1 a.records a.headers l.left l.at l.place (omega arith) l.invariant.0 (omega arith) (e told) (step told) (λ w. let same = c.four.ensures.0 ∙ w in omega arith)))
+    sym (l.invariant.3 ∙ records_wrong a.file.now (low at_loop.before) (start at_loop).requires.1 a.records a.headers l.left l.at l.place (omega arith) l.invariant.0 (omega arith) (e told) (step told) (λ w. let same = c.read.ensures.0 ∙ w in omega arith)))
     (λ c. search rules)
     (λ c. search rules)
     (λ c. search rules)

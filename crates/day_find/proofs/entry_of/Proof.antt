@@ -1,4 +1,5 @@
 -- `day_find::entry_of` meets its contract: the index leads to the record.
+use Rattle.std.proofs.Common.{lit≤, rules}
 use Prim.Native.Nat.{ℕ}
 use native.Mathlib.Omega.{arith}
 use Rattle.paper.specs.Strings.{Bytes, Below}
@@ -36,20 +37,20 @@ overflow_mul-k c = omega (arith, (there c).index, (there c).short, c.requires.1)
 overflow_add-file : tie.Need-overflow_add-file
 overflow_add-file c = omega (arith, (there c).index, (there c).short, c.requires.1)
 
-four-place-requires : tie.Need-four-place-requires
-four-place-requires c κs = omega (arith, (there c).index, (there c).short, c.requires.1)
+read-place-requires : tie.Need-read-place-requires
+read-place-requires c κs = (search rules, (lit≤ tt, omega (arith, (there c).index, (there c).short, c.requires.1)))
 
 entry_at-requires : tie.Need-entry_at-requires
 entry_at-requires c κs =
     let s = c.before in
-    (entry_room (f s) (low s) (records s) (k s) (there s) c.four-place.result c.four-place.ensures.0, (there s).short)
+    (entry_room (f s) (low s) (records s) (k s) (there s) c.read-place.result c.read-place.ensures.0, (there s).short)
 
 returns : tie.Need-returns
 returns c =
     let p = c.before in
     let s = p.before in
     let e = c.entry_at.result in
-    let is = entry_read (f s) (low s) (records s) (k s) (there s) p.four-place.result p.four-place.ensures.0 e c.entry_at.ensures.0 in
+    let is = entry_read (f s) (low s) (records s) (k s) (there s) p.read-place.result p.read-place.ensures.0 e c.entry_at.ensures.0 in
     (is, header_named (f s) (low s) (records s) (k s) (there s) e is)
 
 pub entry_of_spec : {M : Type 1} → statement M
@@ -58,6 +59,6 @@ entry_of_spec = tie.close (tie.spec
     overflow_sub-file
     overflow_mul-k
     overflow_add-file
-    four-place-requires
+    read-place-requires
     entry_at-requires
     returns)

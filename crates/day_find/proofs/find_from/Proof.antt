@@ -1,4 +1,5 @@
 -- `day_find::find_from` meets its contract: the index leads to the record, and a walk over the headers to its own.
+use Rattle.std.proofs.Common.{lit≤, rules}
 use mathlib.Core.Path.{ap}
 use Prim.Native.Nat.{ℕ, ◌+◌, ◌≤◌}
 use native.Mathlib.Omega.{arith}
@@ -46,19 +47,19 @@ place_from-place-requires c κs =
 overflow_add-header_start : tie.Need-overflow_add-header_start
 overflow_add-header_start c = omega (arith, room c)
 
-two-requires : tie.Need-two-requires
-two-requires c κs = omega (arith, room c)
+read-requires : tie.Need-read-requires
+read-requires c κs = (search rules, (lit≤ tt, omega (arith, room c)))
 
 overflow_add-header_end : tie.Need-overflow_add-header_end
-overflow_add-header_end c = omega (arith, room c.before, c.two.ensures.0)
+overflow_add-header_end c = omega (arith, room c.before, c.read.ensures.0)
 
 returns : tie.Need-returns
 returns c =
     let l = c.before in
     let e = l.before in
     let s = e.before in (
-      found_is (f s) (low s) (records s) (k s) (there s) e.entry_of-e.result e.entry_of-e.ensures.0 l.place_from-place.result l.place_from-place.ensures c.two.result c.two.ensures.0,
-      found_within (f s) (low s) (records s) (k s) (there s) e.entry_of-e.result e.entry_of-e.ensures.0 l.place_from-place.result l.place_from-place.ensures c.two.result c.two.ensures.0,
+      found_is (f s) (low s) (records s) (k s) (there s) e.entry_of-e.result e.entry_of-e.ensures.0 l.place_from-place.result l.place_from-place.ensures c.read.result c.read.ensures.0,
+      found_within (f s) (low s) (records s) (k s) (there s) e.entry_of-e.result e.entry_of-e.ensures.0 l.place_from-place.result l.place_from-place.ensures c.read.result c.read.ensures.0,
     )
 
 pub find_from_spec : {M : Type 1} → statement M
@@ -66,6 +67,6 @@ find_from_spec = tie.close (tie.spec
     entry_of-e-requires
     place_from-place-requires
     overflow_add-header_start
-    two-requires
+    read-requires
     overflow_add-header_end
     returns)

@@ -1,4 +1,5 @@
 -- `day_find::place_from` meets its contract. The invariant: the place is that of the length bytes of the header that is next.
+use Rattle.std.proofs.Common.{lit≤}
 use mathlib.Core.Path.{◌≡◌, ap, ◌∙◌}
 use Prim.Native.Nat.{ℕ, ◌+◌, ◌-◌, ◌≤◌}
 use native.Mathlib.Omega.{arith}
@@ -41,14 +42,14 @@ loop-i-init c = (c.requires.1, c.requires.0)
 overflow_add-place : tie.Need-overflow_add-place invariant-loop-i decreases-loop-i
 overflow_add-place c = omega (arith, (step c).0)
 
-two-requires : tie.Need-two-requires invariant-loop-i decreases-loop-i
-two-requires c κs = omega (arith, (step c).0)
+read-requires : tie.Need-read-requires invariant-loop-i decreases-loop-i
+read-requires c κs = (search rules, (lit≤ tt, omega (arith, (step c).0)))
 
 overflow_add-place-in-loop-i : tie.Need-overflow_add-place-in-loop-i invariant-loop-i decreases-loop-i
-overflow_add-place-in-loop-i c = omega (arith, (step c.before).0, c.two.ensures.0)
+overflow_add-place-in-loop-i c = omega (arith, (step c.before).0, c.read.ensures.0)
 
 loop-i-preserved : tie.Need-loop-i-preserved invariant-loop-i decreases-loop-i
-loop-i-preserved c = (omega arith, ap (λ (n : ℕ). at c.before + 2 + n) c.two.ensures.0 ∙ (step c.before).1)
+loop-i-preserved c = (omega arith, ap (λ (n : ℕ). at c.before + 2 + n) c.read.ensures.0 ∙ (step c.before).1)
 
 returns : tie.Need-returns invariant-loop-i decreases-loop-i
 returns c =
@@ -66,7 +67,7 @@ place_from_spec =
     decreases-loop-i
     loop-i-init
     overflow_add-place
-    two-requires
+    read-requires
     overflow_add-place-in-loop-i
     (λ c. search rules)
     (λ c. search rules)

@@ -1,4 +1,5 @@
 -- `day_grow::put_grown` meets its contract: the header that is there, or the one that is brought.
+use Rattle.std.proofs.Common.{lit≤}
 use mathlib.Core.Option.{Option}
 use mathlib.Core.Path.{◌≡◌, ap, sym, ◌∙◌}
 use Prim.Native.Nat.{ℕ, ◌+◌, ◌*◌, ◌≤◌}
@@ -121,7 +122,7 @@ moved_from c = c.before.before
 abbrev headed_from : tie.After-put → tie.After-move_right
 headed_from c = c.before.before.before.before
 
-module _ (c : tie.After-put_four) where
+module _ (c : tie.After-put-2) where
   abbrev header_put : tie.After-put
   header_put = c.before.before.before.before
 
@@ -137,9 +138,9 @@ module _ (c : tie.After-put_four) where
     moved_is = move_made.move_right.ensures;
     headed = header_put.put.new.out;
     headed_is = header_put.put.ensures.1;
-    out = c.put_four.new.out;
-    out_is = c.put_four.ensures;
-    kept = c.put_four.auto.out ∙ header_put.put.auto.out ∙ move_made.move_right.auto.out;
+    out = c.put-2.new.out;
+    out_is = c.put-2.ensures;
+    kept = c.put-2.auto.out ∙ header_put.put.auto.out ∙ move_made.move_right.auto.out;
   }
 
 overflow_add-end : tie.Need-overflow_add-end
@@ -163,12 +164,12 @@ overflow_add-headers c =
     let p = (start (lent e)).requires in
     omega (arith, room e, p.headers_are, headers_few p.day.headers, first_place_lem p.day.headers, p.first_is, whole (lent e))
 
-put_four-requires : tie.Need-put_four-requires
-put_four-requires c κs =
+put-requires-2 : tie.Need-put-requires-2
+put-requires-2 c κs =
     let h = c.before.before.before in
     let m = headed_from h in
     let e = moved_from m in
-    omega (arith, room e, heads (lent e), whole (lent e), m.move_right.auto.out, h.put.auto.out)
+    (search rules, (lit≤ tt, omega (arith, room e, heads (lent e), whole (lent e), m.move_right.auto.out, h.put.auto.out)))
 
 overflow_add-first : tie.Need-overflow_add-first
 overflow_add-first c = let b = brought c.before.before.before in omega (arith, room b, whole (lent b))
@@ -211,7 +212,7 @@ put_grown_spec =
     move_right-requires
     put-requires
     overflow_add-headers
-    put_four-requires
+    put-requires-2
     overflow_add-first
     (λ c. search rules)
     put_last-requires-2

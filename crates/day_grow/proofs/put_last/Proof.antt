@@ -1,4 +1,5 @@
 -- `day_grow::put_last` meets its contract.
+use Rattle.std.proofs.Common.{lit≤}
 use mathlib.Core.List.{◌++◌}
 use mathlib.Core.Path.{◌≡◌, ap, sym, ◌∙◌}
 use Prim.Native.Nat.{ℕ, ◌+◌, ◌-◌, ◌*◌, ◌≤◌}
@@ -68,11 +69,11 @@ put_index-requires c κs =
     let s = start r in
     (ends r, omega (arith, s.requires.3, r.put_record.auto.out), omega (arith, s.requires.2))
 
-put_four-requires : tie.Need-put_four-requires
-put_four-requires c κs =
+put-requires : tie.Need-put-requires
+put-requires c κs =
     let x = c.before.before.before in
     let r = x.before.before.before.before in
-    omega (arith, first_inside r, (start r).requires.1, (start r).requires.3, x.put_index.auto.out, r.put_record.auto.out)
+    (search rules, (lit≤ tt, omega (arith, first_inside r, (start r).requires.1, (start r).requires.3, x.put_index.auto.out, r.put_record.auto.out)))
 
 returns : tie.Need-returns
 returns c =
@@ -88,7 +89,7 @@ returns c =
     let size : length (index (f r ++ w)) ≡ 4 + 4 * (a.records + 1) =
     omega
     (arith, length-append (digits 256 4 (a.records + 1)) (write_places ps), length_digits 256 4 (a.records + 1), places_long ps, places_count (f r ++ w) a.first (a.records + 1)) in
-    n.put_four.ensures
+    n.put.ensures
     ∙ ap (placed (a.first - 4) (digits 256 4 (a.records + 1)))
     (x.put_index.ensures
     ∙ (λ i. placed (sym long i) (index (front r i)) (r.put_record.ensures i))
@@ -105,6 +106,6 @@ put_last_spec =
     put_index-requires
     (λ c. search rules)
     (λ c. search rules)
-    put_four-requires
+    put-requires
     (λ c. search rules)
     returns)

@@ -1,4 +1,5 @@
 -- `day_list::list_headers` meets its contract. The invariant: the places of the headers passed stand first in the list.
+use Rattle.std.proofs.Common.{lit≤}
 use mathlib.Core.List.{List, [], ◌∷◌, ◌++◌}
 use mathlib.Core.Path.{◌≡◌, refl, ap, ap₂, sym, ◌∙◌}
 use Prim.Native.Nat.{ℕ, ◌+◌, ◌*◌, ◌-◌, ◌≤◌, ◌<◌}
@@ -44,7 +45,7 @@ module _ (c : tie.In-loop-i invariant-loop-i decreases-loop-i) where
   step = passed f low i at (omega (arith, (start c.before).requires.0)) c.loop-i.invariant.1
 
 -- and its end is put after its start
-abbrev read : tie.After-slice_known-in-loop-i-1 invariant-loop-i decreases-loop-i → tie.After-two invariant-loop-i decreases-loop-i
+abbrev read : tie.After-slice_known-in-loop-i-1 invariant-loop-i decreases-loop-i → tie.After-read invariant-loop-i decreases-loop-i
 read c = c.before.before.before.before
 
 loop-i-init : tie.Need-loop-i-init invariant-loop-i decreases-loop-i
@@ -55,11 +56,11 @@ loop-i-init c =
 overflow_add-start : tie.Need-overflow_add-start invariant-loop-i decreases-loop-i
 overflow_add-start c = omega (arith, (step c).0)
 
-two-requires : tie.Need-two-requires invariant-loop-i decreases-loop-i
-two-requires c κs = omega (arith, (step c).0)
+read-requires : tie.Need-read-requires invariant-loop-i decreases-loop-i
+read-requires c κs = (search rules, (lit≤ tt, omega (arith, (step c).0)))
 
 overflow_add-end : tie.Need-overflow_add-end invariant-loop-i decreases-loop-i
-overflow_add-end c = omega (arith, (step c.before).0, c.two.ensures.0)
+overflow_add-end c = omega (arith, (step c.before).0, c.read.ensures.0)
 
 overflow_mul-i : tie.Need-overflow_mul-i invariant-loop-i decreases-loop-i
 overflow_mul-i c = omega (arith, c.loop-i.invariant.2, (start c.before.before.before).requires.1)
@@ -74,9 +75,9 @@ loop-i-preserved c =
     let s = start t.before.before in
     let o = read_day (f t.before) in
     let put = c.put_two in
-    let next = ap (λ (n : ℕ). l.at + 2 + n) t.two.ensures.0 ∙ (step t.before).1 in
+    let next = ap (λ (n : ℕ). l.at + 2 + n) t.read.ensures.0 ∙ (step t.before).1 in
     let inside : l.i < headers_in o = omega (arith, s.requires.0) in
-    let own : List ℕ = (l.at + 2) ∷ (l.at + 2 + t.two.result) ∷ [] in
+    let own : List ℕ = (l.at + 2) ∷ (l.at + 2 + t.read.result) ∷ [] in
     let more : headers_listed o (l.i + 1) ≡ headers_listed o l.i ++ own =
     headers_more o l.i inside ∙ ap₂ (λ (a b : ℕ). headers_listed o l.i ++ (a + 2) ∷ b ∷ []) (sym l.invariant.1) (sym next) in
     let here : 0 + 2 * l.i ≡ 2 * l.i = omega arith in (
@@ -106,7 +107,7 @@ list_headers_spec =
     decreases-loop-i
     loop-i-init
     overflow_add-start
-    two-requires
+    read-requires
     overflow_add-end
     overflow_mul-i
     put_two-requires

@@ -1,5 +1,6 @@
 -- `day_pack::pack_headers` meets its contract. The invariant: the kept ones of the headers passed stand one after the other, and those to come
 -- are as they were.
+use Rattle.std.proofs.Common.{lit≤}
 use mathlib.Core.List.{List, ◌++◌, append_assoc, append-nil}
 use mathlib.Core.Path.{◌≡◌, refl, ap, sym, ◌∙◌}
 use Prim.Native.Nat.{ℕ, ◌+◌, ◌-◌, ◌≤◌}
@@ -71,12 +72,12 @@ module _ (c : tie.In-loop-i invariant-loop-i decreases-loop-i) where
       (arith, length-append (take 4 out₀) (heads_kept out₀ table i), length-take-le 4 out₀ (count_room out₀ start.args.headers start.requires.0), c.loop-i.invariant.2)
 
 -- the length is read
-module _ (c : tie.After-two-n invariant-loop-i decreases-loop-i) where
+module _ (c : tie.After-read-n invariant-loop-i decreases-loop-i) where
   abbrev turn : tie.In-loop-i invariant-loop-i decreases-loop-i
   turn = c.before
 
-  size_is : 2 + c.two-n.result ≡ size turn
-  size_is = ap (λ (n : ℕ). 2 + n) (c.two-n.ensures.0 ∙ ap (λ (X : Bytes). value (take 2 X)) (read_same turn))
+  size_is : 2 + c.read-n.result ≡ size turn
+  size_is = ap (λ (n : ℕ). 2 + n) (c.read-n.ensures.0 ∙ ap (λ (X : Bytes). value (take 2 X)) (read_same turn))
 
 loop-i-init : tie.Need-loop-i-init invariant-loop-i decreases-loop-i
 unfolding head_end heads_kept
@@ -86,13 +87,13 @@ loop-i-init c =
     let four = count_room o s.args.headers s.requires.0 in
     (omega arith, refl, refl, packed_as (sym (append-nil (take 4 o))) refl (packed_start o 4 4 (omega arith) four))
 
-two-n-requires : tie.Need-two-n-requires invariant-loop-i decreases-loop-i
-two-n-requires c κs =
+read-n-requires : tie.Need-read-n-requires invariant-loop-i decreases-loop-i
+read-n-requires c κs =
     let t = c in
-    omega (arith, room t, t.loop-i.invariant.1, (now_packed t).long)
+    (search rules, (lit≤ tt, omega (arith, room t, t.loop-i.invariant.1, (now_packed t).long)))
 
 overflow_add-n : tie.Need-overflow_add-n invariant-loop-i decreases-loop-i
-overflow_add-n c = omega (arith, c.two-n.ensures.1)
+overflow_add-n c = omega (arith, c.read-n.ensures.1)
 
 bit-requires : tie.Need-bit-requires invariant-loop-i decreases-loop-i
 bit-requires c κs = let t = turn c.before in omega (arith, (start t).requires.1)
@@ -116,10 +117,10 @@ loop-i-preserved c =
     let w = b.before.before in
     let t = turn w in
     let l = t.loop-i in
-    let part : kept_part b.bit.result (take (2 + w.two-n.result) (drop l.from l.out)) ≡ kept_part (bit_of (table t) (i t)) (own t) =
+    let part : kept_part b.bit.result (take (2 + w.read-n.result) (drop l.from l.out)) ≡ kept_part (bit_of (table t) (i t)) (own t) =
     λ j. kept_part (b.bit.ensures.0 j) (take (size_is w j) (read_same t j)) in
     let kept = kept_part (bit_of (table t) (i t)) (own t) in
-    let next : l.from + (2 + w.two-n.result) ≡ head_end (out₀ t) (i t + 1) = omega (arith, l.invariant.1, size_is w, head_more (out₀ t) (i t)) in
+    let next : l.from + (2 + w.read-n.result) ≡ head_end (out₀ t) (i t + 1) = omega (arith, l.invariant.1, size_is w, head_more (out₀ t) (i t)) in
     let more = heads_more (out₀ t) (table t) (i t) in
     let short : length kept ≤ size t =
     omega (arith, part_short (bit_of (table t) (i t)) (own t), length-take-le (size t) (drop (head_end (out₀ t) (i t)) (out₀ t)) (omega (arith, room t, length-drop (head_end (out₀ t) (i t)) (out₀ t)))) in (
@@ -127,7 +128,7 @@ loop-i-preserved c =
       next,
       m.move_kept-to.ensures.0 ∙ omega (arith, ap length part, l.invariant.2, ap length more, length-append (heads_kept (out₀ t) (table t) (i t)) kept),
       packed_as (append_assoc (take 4 (out₀ t)) (heads_kept (out₀ t) (table t) (i t)) kept ∙ ap (λ (X : Bytes). take 4 (out₀ t) ++ X) (sym more)) refl
-          (packed_more (now_packed t) l.to (sym (written_long t)) kept (l.from + (2 + w.two-n.result)) (omega arith)
+          (packed_more (now_packed t) l.to (sym (written_long t)) kept (l.from + (2 + w.read-n.result)) (omega arith)
           (omega (arith, short, (now_packed t).behind, written_long t, size_is w)) (omega (arith, next, next_inside t)) m.move_kept-to.new.out
           (m.move_kept-to.ensures.1 ∙ ap (λ (X : Bytes). placed l.to X l.out) part)),
     )
@@ -153,7 +154,7 @@ pack_headers_spec =
     invariant-loop-i
     decreases-loop-i
     loop-i-init
-    two-n-requires
+    read-n-requires
     overflow_add-n
     bit-requires
     move_kept-to-requires

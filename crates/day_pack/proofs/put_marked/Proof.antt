@@ -1,4 +1,5 @@
 -- `day_pack::put_marked` meets its contract: each step by what stands in the buffer after the one before it.
+use Rattle.std.proofs.Common.{lit≤}
 use mathlib.Core.List.{List}
 use mathlib.Core.Option.{Option}
 use mathlib.Core.Path.{◌≡◌, refl, ap, sym, ◌∙◌}
@@ -60,7 +61,7 @@ module _ (c : tie.After-shared_slice_known-1) where
   file = sym (ap (λ (o : Option Day). cleared_file o dropped) start.requires.0.reads)
 
 -- the headers' count is put
-module _ (c : tie.After-put_four) where
+module _ (c : tie.After-put) where
   abbrev tallied : tie.After-tally-named
   tallied = c.before.before
 
@@ -71,13 +72,13 @@ module _ (c : tie.After-put_four) where
   h = record {
     count = tallied.tally-named.result;
     count_is = tallied.tally-named.ensures.0;
-    out = c.put_four.new.out;
-    put = c.put_four.ensures;
+    out = c.put.new.out;
+    put = c.put.ensures;
   }
 
 -- the headers are put
 module _ (c : tie.After-pack_headers-to) where
-  abbrev counted : tie.After-put_four
+  abbrev counted : tie.After-put
   counted = c.before.before.before.before
 
   abbrev q : HeadersPut (b (begun counted)) (m (begun counted)) (h counted)
@@ -92,7 +93,7 @@ module _ (c : tie.After-pack_headers-to) where
   to_room = clears.to_room (b (begun counted)) (m (begun counted)) (h counted) q
 
 -- the records' count is put
-module _ (c : tie.After-put_four-2) where
+module _ (c : tie.After-put-2) where
   abbrev headed : tie.After-pack_headers-to
   headed = c.before.before.before.before
 
@@ -103,13 +104,13 @@ module _ (c : tie.After-put_four-2) where
   n = record {
     count = (start k₃).args.kept;
     count_is = (start k₃).requires.2;
-    out = c.put_four-2.new.out;
-    put = c.put_four-2.ensures;
+    out = c.put-2.new.out;
+    put = c.put-2.ensures;
   }
 
 -- the records are put
 module _ (c : tie.After-pack_records-end) where
-  abbrev numbered : tie.After-put_four-2
+  abbrev numbered : tie.After-put-2
   numbered = c.before.before.before.before.before
 
   abbrev h₄ : tie.After-pack_headers-to
@@ -161,8 +162,8 @@ overflow_sub-last-2 c = omega (arith, whole c)
 tally-named-requires : tie.Need-tally-named-requires
 tally-named-requires c κs = (clears.headers_few (b c.before), refl)
 
-put_four-requires : tie.Need-put_four-requires
-put_four-requires c κs = let k = c.before.before.before in omega (arith, whole k, (start k).requires.0.inside)
+put-requires : tie.Need-put-requires
+put-requires c κs = let k = c.before.before.before in (search rules, (lit≤ tt, omega (arith, whole k, (start k).requires.0.inside)))
 
 pack_headers-to-requires : tie.Need-pack_headers-to-requires
 pack_headers-to-requires c κs =
@@ -170,11 +171,11 @@ pack_headers-to-requires c κs =
     let k = begun p in
     (clears.heads_ready (b k) (m k) (h p), clears.headers_few (b k))
 
-put_four-requires-2 : tie.Need-put_four-requires-2
-put_four-requires-2 c κs =
+put-requires-2 : tie.Need-put-requires-2
+put-requires-2 c κs =
     let p = c.before.before.before in
     let k = begun (counted p) in
-    omega (arith, to_room p, whole k, (start k).requires.0.inside, p.pack_headers-to.auto.out, (counted p).put_four.auto.out)
+    (search rules, (lit≤ tt, omega (arith, to_room p, whole k, (start k).requires.0.inside, p.pack_headers-to.auto.out, (counted p).put.auto.out)))
 
 overflow_add-start : tie.Need-overflow_add-start
 overflow_add-start c =
@@ -244,9 +245,9 @@ put_marked_spec =
     overflow_mul-last
     overflow_sub-last-2
     tally-named-requires
-    put_four-requires
+    put-requires
     pack_headers-to-requires
-    put_four-requires-2
+    put-requires-2
     overflow_add-start
     pack_records-end-requires
     put_index-requires

@@ -15,7 +15,7 @@ use borrow.Author.Rules.{rules}
 use Rattle.day_place.proofs.put_index.Statement.{statement}
 use Rattle.day_place.proofs.put_index.Tie as tie
 
-abbrev listed : tie.After-put_four → tie.After-put_places
+abbrev listed : tie.After-put → tie.After-put_places
 listed c = c.before.before.before.before
 
 abbrev start : tie.After-put_places → tie.Start
@@ -30,7 +30,7 @@ returns c =
     let count = digits 256 4 a.records in
     let four : length count ≡ 4 = length_digits 256 4 a.records in
     let many : length (write_places places) ≡ 4 * a.records = places_long places ∙ ap (λ (n : ℕ). 4 * n) (places_count (take a.at a.out.now) a.first a.records) in
-    put.put_four.ensures
+    put.put.ensures
     ∙ ap (placed a.at count) ((listed put).put_places.ensures ∙ ap (λ (n : ℕ). placed (a.at + n) (write_places places) a.out.now) (sym four))
     ∙ placed_front a.at count (write_places places) a.out.now (omega (arith, four, many, s.requires.1))
 

@@ -1,4 +1,5 @@
 -- `day_place::put_places` meets its contract. The invariant: the places of the records passed stand where they go.
+use Rattle.std.proofs.Common.{lit≤}
 use mathlib.Core.List.{[], ◌++◌}
 use mathlib.Core.Path.{◌≡◌, refl, ap, sym, ◌∙◌}
 use Prim.Native.Nat.{ℕ, ◌+◌, ◌*◌, ◌-◌, ◌≤◌}
@@ -81,15 +82,15 @@ module _ (c : tie.In-loop-i invariant-loop-i decreases-loop-i) where
     same = ap (take at) more ∙ placed_before (at + 4) (write_places (places_of f first (i + 1))) out₀ at (omega arith) (omega (arith, start.requires.1))
 
 -- the place is put
-module _ (c : tie.After-put_four invariant-loop-i decreases-loop-i) where
+module _ (c : tie.After-put invariant-loop-i decreases-loop-i) where
   abbrev turn : tie.In-loop-i invariant-loop-i decreases-loop-i
   turn = c.before.before
 
   abbrev out : Bytes
-  out = c.put_four.new.out
+  out = c.put.new.out
 
   out_long : length out ≡ length (out₀ turn)
-  out_long = c.put_four.auto.out ∙ turn.loop-i.invariant.2
+  out_long = c.put.auto.out ∙ turn.loop-i.invariant.2
 
   front_long : length (take (at turn) out) ≡ at turn
   front_long = length-take-le (at turn) out (omega (arith, out_long, (start turn).requires.1))
@@ -100,8 +101,8 @@ loop-i-init c =
     let a = c.args in
     (omega arith, refl, refl, placed_none (a.at + 4) [] a.out.now refl)
 
-put_four-requires : tie.Need-put_four-requires invariant-loop-i decreases-loop-i
-put_four-requires c κs = omega (arith, c.loop-i.invariant.2, (start c.before).requires.1)
+put-requires : tie.Need-put-requires invariant-loop-i decreases-loop-i
+put-requires c κs = (search rules, (lit≤ tt, omega (arith, c.loop-i.invariant.2, (start c.before).requires.1)))
 
 slice_bounds-entry_at-end : tie.Need-slice_bounds-entry_at-end invariant-loop-i decreases-loop-i
 slice_bounds-entry_at-end c = let p = c.before.before in omega (arith, out_long p, (start (turn p)).requires.1)
@@ -119,7 +120,7 @@ loop-i-preserved c =
     let p = c.before.before.before in
     let t = turn p in
     let l = t.loop-i in
-    let put = p.put_four.ensures in
+    let put = p.put.ensures in
     let next : c.entry_at-e.result.end ≡ end_of (f t) (first t) (i t + 1) =
     ap (λ (e : Entry). e.end) c.entry_at-e.ensures.0
     ∙ (λ j. (entry_at (same t (out p) put j) (l.invariant.1 j)).end)
@@ -146,7 +147,7 @@ put_places_spec =
     (λ c. search rules)
     (λ c. search rules)
     (λ c. search rules)
-    put_four-requires
+    put-requires
     slice_bounds-entry_at-end
     slice_bounds-entry_at-end-in-loop-i
     entry_at-e-requires

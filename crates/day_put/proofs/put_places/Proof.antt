@@ -1,4 +1,5 @@
 -- `day_put::put_places` meets its contract. The invariant: the places of the records passed are put, and the others are to be put.
+use Rattle.std.proofs.Common.{lit≤}
 use mathlib.Core.Path.{◌≡◌, ap, sym, ◌∙◌}
 use Prim.Native.Nat.{ℕ, ◌+◌, ◌-◌, ◌*◌, ◌≤◌}
 use native.Mathlib.Omega.{arith}
@@ -44,8 +45,8 @@ overflow_mul-i c = omega (arith, space c.before)
 overflow_add-start : tie.Need-overflow_add-start invariant-loop-i decreases-loop-i
 overflow_add-start c = omega (arith, space c.before)
 
-put_four-requires : tie.Need-put_four-requires invariant-loop-i decreases-loop-i
-put_four-requires c κs = omega (arith, space c.before, c.loop-i.invariant.2.2.kept)
+put-requires : tie.Need-put-requires invariant-loop-i decreases-loop-i
+put-requires c κs = (search rules, (lit≤ tt, omega (arith, space c.before, c.loop-i.invariant.2.2.kept)))
 
 overflow_add-place : tie.Need-overflow_add-place invariant-loop-i decreases-loop-i
 overflow_add-place c = omega (arith, past c.before.before.before.before)
@@ -66,8 +67,8 @@ loop-i-preserved c =
       (
         at + 4,
         omega (arith, p.invariant.2.1),
-        put_more (digits 256 4 p.place) (write_places (places_by (p.place + 7 + get_or a.sizes.now p.i 0) (drop (p.i + 1) a.sizes.now))) f.put_four.new.out (at + 4) p.invariant.2.2
-            (place_next a.sizes.now p.i p.place (omega arith)).0 (f.put_four.ensures ∙ ap (λ (n : ℕ). placed n (digits 256 4 p.place) p.out) (sym p.invariant.2.1)) (omega (arith, four)) (omega (arith, p.invariant.2.1, space l)) f.put_four.auto.out,
+        put_more (digits 256 4 p.place) (write_places (places_by (p.place + 7 + get_or a.sizes.now p.i 0) (drop (p.i + 1) a.sizes.now))) f.put.new.out (at + 4) p.invariant.2.2
+            (place_next a.sizes.now p.i p.place (omega arith)).0 (f.put.ensures ∙ ap (λ (n : ℕ). placed n (digits 256 4 p.place) p.out) (sym p.invariant.2.1)) (omega (arith, four)) (omega (arith, p.invariant.2.1, space l)) f.put.auto.out,
       ),
     )
 
@@ -88,7 +89,7 @@ put_places_spec =
     loop-i-init
     overflow_mul-i
     overflow_add-start
-    put_four-requires
+    put-requires
     overflow_add-place
     (λ c. search rules)
     (λ c. search rules)

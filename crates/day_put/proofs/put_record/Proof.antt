@@ -1,4 +1,5 @@
 -- `day_put::put_record` meets its contract: the number, the stretch, the length, and the sealed bytes.
+use Rattle.std.proofs.Common.{lit≤}
 use mathlib.Core.List.{[], ◌∷◌, ◌++◌, append_assoc, append-nil}
 use mathlib.Core.Path.{◌≡◌, refl, ap, sym, ◌∙◌}
 use Prim.Native.Nat.{ℕ, ◌+◌, ◌≤◌}
@@ -41,29 +42,29 @@ together at number stretch sealed out one three last room p a q b r c =
         ap (λ (X : Bytes). digits 256 2 number ++ (stretch ∷ (digits 256 4 (length sealed) ++ X))) (append-nil sealed)
         ∙ sym (append_assoc (digits 256 2 number) (stretch ∷ digits 256 4 (length sealed)) sealed)
 
-abbrev begun : tie.After-put_two → tie.Start
+abbrev begun : tie.After-put → tie.Start
 begun c = c.before.before.before.before
 
-abbrev numbered : tie.After-put_four → tie.After-put_two
+abbrev numbered : tie.After-put-2 → tie.After-put
 numbered c = c.before.before.before.before
 
-put_four-requires : tie.Need-put_four-requires
-put_four-requires c κs =
+put-requires-2 : tie.Need-put-requires-2
+put-requires-2 c κs =
     let t = c.before.before.before in
-    simp length-set (omega (arith, t.put_two.auto.out, (begun t).requires.1))
+    (search rules, (lit≤ tt, simp length-set (omega (arith, t.put.auto.out, (begun t).requires.1))))
 
 copy-requires : tie.Need-copy-requires
 copy-requires c κs =
     let f = c.before.before.before in
     let t = numbered f in
-    omega (arith, f.put_four.auto.out, length-set t.put_two.new.out ((begun t).args.at + 2) (begun t).args.stretch, t.put_two.auto.out, (begun t).requires.1)
+    omega (arith, f.put-2.auto.out, length-set t.put.new.out ((begun t).args.at + 2) (begun t).args.stretch, t.put.auto.out, (begun t).requires.1)
 
 shape_of-out : tie.Need-shape_of-out
 shape_of-out c =
     let l = c.before.before in
     let f = l.before.before.before.before in
     let t = numbered f in
-    l.copy.auto.s ∙ f.put_four.auto.out ∙ length-set t.put_two.new.out ((begun t).args.at + 2) (begun t).args.stretch ∙ t.put_two.auto.out
+    l.copy.auto.s ∙ f.put-2.auto.out ∙ length-set t.put.new.out ((begun t).args.at + 2) (begun t).args.stretch ∙ t.put.auto.out
 
 returns : tie.Need-returns
 returns c =
@@ -71,8 +72,8 @@ returns c =
     let f = l.before.before.before.before in
     let t = numbered f in
     let a = (begun t).args in
-    together a.at a.number a.stretch a.sealed.now a.out.now t.put_two.new.out f.put_four.new.out l.copy.new.s (begun t).requires.1
-    t.put_two.ensures t.put_two.auto.out f.put_four.ensures f.put_four.auto.out l.copy.ensures l.copy.auto.s
+    together a.at a.number a.stretch a.sealed.now a.out.now t.put.new.out f.put-2.new.out l.copy.new.s (begun t).requires.1
+    t.put.ensures t.put.auto.out f.put-2.ensures f.put-2.auto.out l.copy.ensures l.copy.auto.s
 
 pub put_record_spec : {M : Type 1} → statement M
 put_record_spec =
@@ -83,7 +84,7 @@ put_record_spec =
     (λ c. search rules)
     (λ c. search rules)
     (λ c. search rules)
-    put_four-requires
+    put-requires-2
     (λ c. search rules)
     copy-requires
     shape_of-out

@@ -13,8 +13,8 @@ returns : tie.Need-returns
 returns c =
     let t = c.before.before in
     let a = t.args in (
-      λ i. record { header = t.two-header.ensures.0 i; stretch = get_or a.file.now (a.at + 2) 0; start = a.at + 7; end = a.at + 7 + c.four.ensures.0 i },
-      t.two-header.ensures.1,
+      λ i. record { header = t.read-header.ensures.0 i; stretch = get_or a.file.now (a.at + 2) 0; start = a.at + 7; end = a.at + 7 + c.read.ensures.0 i },
+      t.read-header.ensures.1,
     )
 
 pub entry_at_spec : {M : Type 1} → statement M

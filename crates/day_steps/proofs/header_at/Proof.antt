@@ -10,10 +10,10 @@ use Rattle.day_steps.proofs.header_at.Tie as tie
 abbrev start : tie.Else-file-at-lt2 → tie.Start
 start c = c.before.before
 
-abbrev sized : tie.After-read → tie.After-two-size
+abbrev sized : tie.After-read → tie.After-read-size
 sized c = c.before.before.before
 
-module _ (c : tie.After-two-size) where
+module _ (c : tie.After-read-size) where
   abbrev f : Bytes
   f = (start c.before).args.file.now
 
@@ -28,13 +28,13 @@ returns-then-file-at-lt2 c =
 returns-then-file-start : tie.Need-returns-then-file-start
 returns-then-file-start c =
     let t = c.before in
-    header_long (f t) (at t) (start t.before).requires t.two-size.result t.two-size.ensures.0 (omega arith) c.if-file-start.true
+    header_long (f t) (at t) (start t.before).requires t.read-size.result t.read-size.ensures.0 (omega arith) c.if-file-start.true
 
 returns-in_default : tie.Need-returns-in_default
 returns-in_default c =
     let r = c.before in
     let t = sized r in
-    header_bad (f t) (at t) (start t.before).requires t.two-size.result t.two-size.ensures.0 (omega arith) r.if-file-start.false
+    header_bad (f t) (at t) (start t.before).requires t.read-size.result t.read-size.ensures.0 (omega arith) r.if-file-start.false
     _ (rw c.in_default.is at r.read.ensures)
 
 returns : tie.Need-returns
@@ -43,7 +43,7 @@ returns c =
     let t = sized r in (
       omega arith,
       omega arith,
-      header_good (f t) (at t) (start t.before).requires t.two-size.result t.two-size.ensures.0 (omega arith) r.if-file-start.false
+      header_good (f t) (at t) (start t.before).requires t.read-size.result t.read-size.ensures.0 (omega arith) r.if-file-start.false
           _ (rw c.in-Strings.is at r.read.ensures),
     )
 

@@ -1,4 +1,5 @@
 -- `day_write::write` meets its contract: a refusal, or the six parts of the file one after the other.
+use Rattle.std.proofs.Common.{lit≤}
 use mathlib.Core.Path.{◌≡◌, ◌∙◌}
 use Prim.Native.Nat.{◌+◌, ◌*◌}
 use native.Mathlib.Omega.{arith}
@@ -24,7 +25,7 @@ abbrev start : tie.After-settled-number → tie.Start
 start c = (second (fourth (sixth c))).before.before
 
 -- 0 is settled
-module _ (c : tie.After-put_four-arg-1) where
+module _ (c : tie.After-put-arg-1) where
   abbrev s : tie.Start
   s = start c.before.before
 
@@ -38,73 +39,73 @@ module _ (c : tie.After-put_four-arg-1) where
   recs = records_long_here s.args.lengths.now s.args.headers.now s.args.numbers.now s.args.stretches.now s.args.sizes.now s.args.sealed.now fits.all
 
 -- once each part is put the output is whole again
-abbrev whole_one : tie.After-slice_known-2-1 → tie.After-put_four
+abbrev whole_one : tie.After-slice_known-2-1 → tie.After-put
 whole_one c = c.before.before
 
 abbrev whole_two : tie.After-slice_known-3-1 → tie.After-put_headers-end
 whole_two c = c.before.before
 
-abbrev whole_three : tie.After-slice_known-4-1 → tie.After-put_four-2
+abbrev whole_three : tie.After-slice_known-4-1 → tie.After-put-2
 whole_three c = c.before.before
 
 abbrev whole_four : tie.After-slice_known-5-1 → tie.After-put_records-index
 whole_four c = c.before.before
 
-abbrev whole_five : tie.After-slice_known-6-1 → tie.After-put_four-3
+abbrev whole_five : tie.After-slice_known-6-1 → tie.After-put-3
 whole_five c = c.before.before
 
 abbrev whole_six : tie.After-slice_known-7-1 → tie.After-put_places
 whole_six c = c.before.before
 
 -- the parts, each after the one before
-abbrev one : tie.After-put_four → tie.After-put_four-arg-1
+abbrev one : tie.After-put → tie.After-put-arg-1
 one c = c.before
 
-abbrev two : tie.After-put_headers-end → tie.After-put_four
+abbrev two : tie.After-put_headers-end → tie.After-put
 two c = whole_one c.before.before
 
-abbrev three : tie.After-put_four-2 → tie.After-put_headers-end
+abbrev three : tie.After-put-2 → tie.After-put_headers-end
 three c = whole_two c.before.before
 
-abbrev four : tie.After-put_records-index → tie.After-put_four-2
+abbrev four : tie.After-put_records-index → tie.After-put-2
 four c = whole_three c.before.before
 
-abbrev five : tie.After-put_four-3 → tie.After-put_records-index
+abbrev five : tie.After-put-3 → tie.After-put_records-index
 five c = whole_four c.before.before
 
-abbrev six : tie.After-put_places → tie.After-put_four-3
+abbrev six : tie.After-put_places → tie.After-put-3
 six c = whole_five c.before.before
 
 -- where the headers and the records end, and the output's length so far
 module _ (c : tie.After-put_headers-end) where
   after_heads : (c.put_headers-end.result ≡ 4 + 2 * length (s (one (two c))).args.lengths.now + length (s (one (two c))).args.headers.now) × (length c.put_headers-end.new.out ≡ length (s (one (two c))).args.out.now)
-  after_heads = (omega (arith, c.put_headers-end.ensures.0, heads (one (two c))), c.put_headers-end.auto.out ∙ (two c).put_four.auto.out)
+  after_heads = (omega (arith, c.put_headers-end.ensures.0, heads (one (two c))), c.put_headers-end.auto.out ∙ (two c).put.auto.out)
 
 module _ (c : tie.After-put_records-index) where
   abbrev headed : tie.After-put_headers-end
   headed = three (four c)
 
-  abbrev first : tie.After-put_four-arg-1
+  abbrev first : tie.After-put-arg-1
   first = one (two headed)
 
   after_records : (c.put_records-index.result ≡ 8 + 2 * length (s first).args.lengths.now + length (s first).args.headers.now + 7 * length (s first).args.sizes.now + length (s first).args.sealed.now) × (length c.put_records-index.new.out ≡ length (s first).args.out.now)
   after_records = (
     omega (arith, c.put_records-index.ensures.0, recs first, (after_heads headed).0),
-    c.put_records-index.auto.out ∙ (four c).put_four-2.auto.out ∙ (after_heads headed).1,
+    c.put_records-index.auto.out ∙ (four c).put-2.auto.out ∙ (after_heads headed).1,
   )
 
-put_four-requires : tie.Need-put_four-requires
-put_four-requires c κs = omega (arith, (fits c).has_room)
+put-requires : tie.Need-put-requires
+put-requires c κs = (search rules, (lit≤ tt, omega (arith, (fits c).has_room)))
 
 put_headers-end-requires : tie.Need-put_headers-end-requires
 put_headers-end-requires c κs =
     let f = whole_one c.before in
-    ((fits (one f)).headed, omega (arith, (fits (one f)).has_room, f.put_four.auto.out))
+    ((fits (one f)).headed, omega (arith, (fits (one f)).has_room, f.put.auto.out))
 
-put_four-requires-2 : tie.Need-put_four-requires-2
-put_four-requires-2 c κs =
+put-requires-2 : tie.Need-put-requires-2
+put-requires-2 c κs =
     let h = whole_two c.before in
-    omega (arith, (fits (one (two h))).has_room, (after_heads h).0, (after_heads h).1)
+    (search rules, (lit≤ tt, omega (arith, (fits (one (two h))).has_room, (after_heads h).0, (after_heads h).1)))
 
 overflow_add-first : tie.Need-overflow_add-first
 overflow_add-first c =
@@ -115,12 +116,12 @@ put_records-index-requires : tie.Need-put_records-index-requires
 put_records-index-requires c κs =
     let d = whole_three c.before in
     let h = three d in
-    ((fits (one (two h))).recorded, omega (arith, (fits (one (two h))).has_room, (after_heads h).0, (after_heads h).1, d.put_four-2.auto.out))
+    ((fits (one (two h))).recorded, omega (arith, (fits (one (two h))).has_room, (after_heads h).0, (after_heads h).1, d.put-2.auto.out))
 
-put_four-requires-3 : tie.Need-put_four-requires-3
-put_four-requires-3 c κs =
+put-requires-3 : tie.Need-put-requires-3
+put-requires-3 c κs =
     let r = whole_four c.before in
-    omega (arith, (fits (first r)).has_room, (after_records r).0, (after_records r).1)
+    (search rules, (lit≤ tt, omega (arith, (fits (first r)).has_room, (after_records r).0, (after_records r).1)))
 
 overflow_add-index : tie.Need-overflow_add-index
 overflow_add-index c =
@@ -133,7 +134,7 @@ put_places-requires c κs =
     let r = five d in
     let f = first r in (
       omega (arith, (fits f).short, (after_heads (headed r)).0, total_is (s f).args.lengths.now (s f).args.headers.now (s f).args.numbers.now (s f).args.stretches.now (s f).args.sizes.now (s f).args.sealed.now (fits f).all),
-      omega (arith, (fits f).has_room, (after_records r).0, (after_records r).1, d.put_four-3.auto.out),
+      omega (arith, (fits f).has_room, (after_records r).0, (after_records r).1, d.put-3.auto.out),
     )
 
 returns : tie.Need-returns
@@ -146,10 +147,10 @@ returns c =
     let b = two h in
     let f = one b in
     wrote (s f).args.lengths.now (s f).args.headers.now (s f).args.numbers.now (s f).args.stretches.now (s f).args.sizes.now (s f).args.sealed.now (fits f).all (s f).args.out.now
-    b.put_four.new.out h.put_headers-end.new.out e.put_four-2.new.out r.put_records-index.new.out d.put_four-3.new.out p.put_places.new.out
+    b.put.new.out h.put_headers-end.new.out e.put-2.new.out r.put_records-index.new.out d.put-3.new.out p.put_places.new.out
     h.put_headers-end.result r.put_records-index.result (fits f).has_room
-    b.put_four.ensures b.put_four.auto.out h.put_headers-end.ensures.0 h.put_headers-end.ensures.1 h.put_headers-end.auto.out e.put_four-2.ensures e.put_four-2.auto.out
-    r.put_records-index.ensures.0 r.put_records-index.ensures.1 r.put_records-index.auto.out d.put_four-3.ensures d.put_four-3.auto.out p.put_places.ensures p.put_places.auto.out
+    b.put.ensures b.put.auto.out h.put_headers-end.ensures.0 h.put_headers-end.ensures.1 h.put_headers-end.auto.out e.put-2.ensures e.put-2.auto.out
+    r.put_records-index.ensures.0 r.put_records-index.ensures.1 r.put_records-index.auto.out d.put-3.ensures d.put-3.auto.out p.put_places.ensures p.put_places.auto.out
     (fits f).short f.settled-number.result c.size-length.result (omega arith) c.size-length.ensures
 
 pub write_spec : {M : Type 1} → statement M
@@ -160,12 +161,12 @@ write_spec =
     (λ c.
     let b = c.args in
     write_refused b.lengths.now b.headers.now b.numbers.now b.stretches.now b.sizes.now b.sealed.now c.settled-number.result b.out.now c.settled-number.ensures (λ e. omega arith))
-    put_four-requires
+    put-requires
     put_headers-end-requires
-    put_four-requires-2
+    put-requires-2
     overflow_add-first
     put_records-index-requires
-    put_four-requires-3
+    put-requires-3
     overflow_add-index
     put_places-requires
     (λ c κs. search rules)
