@@ -1,6 +1,6 @@
 -- What the calls of E have in common: the masks of lines 404 to 406, and the keys that they stand in.
 use mathlib.Core.List.{List, ◌∷◌}
-use mathlib.Core.Path.{◌≡◌, refl, ap, ◌∙◌}
+use mathlib.Core.Path.{◌≡◌, refl, ap, sym, ◌∙◌}
 use Prim.Native.Nat.{ℕ, ◌-◌, ◌*◌, ◌/◌, ◌%◌, ◌≤◌}
 use native.Mathlib.Omega.{arith}
 use lib.ListN.{drop}
@@ -10,6 +10,7 @@ use Rattle.paper.specs.Figure6 as figure6
 use Rattle.laws.proofs.Digits.{⊕_block}
 use Rattle.laws.proofs.KeyBlocks.{times_block, two_to_block}
 use Rattle.laws.proofs.Round.{AES_mask}
+use Rattle.laws.proofs.Strings.{⊕_assoc}
 use Rattle.columns.specs.Columns.{columns_of, block_of}
 use Rattle.columns.proofs.Conversions.{made, sum_of}
 use Rattle.aes.specs.Steps.{keys_of}
@@ -53,3 +54,15 @@ with_mask Ks keys mask M x r p q e f g =
 pub first_masked : (k : Base) (mask : List ℕ) → keys_of (masked0 k mask) ≡ block_of mask ∷ drop 1 (figure6.k0 (base k))
 unfolding crossed_bytes plane_bytes lane
 first_masked k mask = refl
+
+-- what E gives, from the mask that was read and the keys that it stands in
+module _ (k : Base) (m : List ℕ) (of : OfJ k m) (Ks : List Bytes) (keys : List (List ℕ)) (mask : List ℕ) {x r : Bytes} (q : Block x)
+    (f : keys_of keys ≡ block_of mask ∷ Ks) (g : r ≡ AES (keys_of keys) x) where
+  pub under_read : (j : ℕ) → j ≤ 7 → mask ≡ four_at m (4 * (j % 8)) → r ≡ AES (zeros ∷ Ks) (x ⊕ j · (base k).J)
+  under_read j h e = with_mask Ks keys mask (j · (base k).J) x r (times_block j (base_bytes k).J) q (e ∙ read k m of j h) f g
+
+  pub under_running : (p : Pair) (power : List ℕ) → Running k p power → mask ≡ columns_of (block_of (four_at m (4 * (p.2 % 8))) ⊕ block_of power)
+      → r ≡ AES (zeros ∷ Ks) (figure6.masked (base k) p.2 x)
+  under_running p power h e =
+      with_mask Ks keys mask (running_mask k p.2) x r (running_mask_block k p.2) q (running_is k m of p power mask h e) f g
+      ∙ ap (AES (zeros ∷ Ks)) (sym (⊕_assoc x ((p.2 % 8) · (base k).J) (two_to ((p.2 - 1) / 8) (base k).L)))

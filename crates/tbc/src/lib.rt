@@ -27,13 +27,11 @@ pub struct Base {
 pub fn base_of(i: [u8; 16], j: [u8; 16], l: [u8; 16]) -> Base
     ensures { result ≡ base_of (record { I = i; J = j; L = l }) }
 {
-    let columns_i = columns::of_block(i);
-    let columns_j = columns::of_block(j);
-    let columns_l = columns::of_block(l);
-    let i = sub_bytes::crossed(columns_i);
-    let j = sub_bytes::crossed(columns_j);
-    let l = sub_bytes::crossed(columns_l);
-    Base { i, j, l }
+    Base {
+        i: sub_bytes::crossed(columns::of_block(i)),
+        j: sub_bytes::crossed(columns::of_block(j)),
+        l: sub_bytes::crossed(columns::of_block(l)),
+    }
 }
 
 impl Base {
@@ -41,21 +39,19 @@ impl Base {
     pub fn blocks(self) -> [Columns; 3]
         ensures { result ≡ columns_of (base self).I ∷ columns_of (base self).J ∷ columns_of (base self).L ∷ [] }
     {
-        let crossed_i = self.i;
-        let crossed_j = self.j;
-        let crossed_l = self.l;
-        let i = sub_bytes::crossed(crossed_i);
-        let j = sub_bytes::crossed(crossed_j);
-        let l = sub_bytes::crossed(crossed_l);
-        [i, j, l]
+        let Base { i, j, l } = self;
+        [
+            sub_bytes::crossed(i),
+            sub_bytes::crossed(j),
+            sub_bytes::crossed(l),
+        ]
     }
 
     // L, which is the power of L for the numbers from 1 to 8.
     pub fn power(self) -> Columns
         ensures { result ≡ columns_of (base self).L }
     {
-        let l = self.l;
-        sub_bytes::crossed(l)
+        sub_bytes::crossed(self.l)
     }
 }
 
@@ -63,38 +59,28 @@ impl Base {
 pub fn keys0(k: Base, mask: Columns) -> [Columns; 5]
     ensures { result ≡ masked0 k mask }
 {
-    let z = [0u32; 4];
-    let i = k.i;
-    let j = k.j;
-    let l = k.l;
-    [mask, i, j, l, z]
+    let Base { i, j, l } = k;
+    [mask, i, j, l, [0; 4]]
 }
 
 fn keys1(k: Base, mask: Columns) -> [Columns; 5]
     ensures { keys_of result ≡ block_of mask ∷ drop 1 (k1 (base k)) }
 {
-    let z = [0u32; 4];
-    let i = k.i;
-    let j = k.j;
-    let l = k.l;
-    [mask, j, l, i, z]
+    let Base { i, j, l } = k;
+    [mask, j, l, i, [0; 4]]
 }
 
 fn keys2(k: Base, mask: Columns) -> [Columns; 5]
     ensures { keys_of result ≡ block_of mask ∷ drop 1 (k2 (base k)) }
 {
-    let i = k.i;
-    let j = k.j;
-    let l = k.l;
+    let Base { i, j, l } = k;
     [mask, l, i, j, i]
 }
 
 fn keys10(k: Base, mask: Columns) -> [Columns; 11]
     ensures { keys_of result ≡ block_of mask ∷ drop 1 (K10 (base k)) }
 {
-    let i = k.i;
-    let j = k.j;
-    let l = k.l;
+    let Base { i, j, l } = k;
     [mask, i, l, j, i, l, j, i, l, j, i]
 }
 
@@ -104,9 +90,8 @@ pub fn keys_adding(k: Base, m: &[u32; 32], p: Pair, added: Columns) -> [Columns;
     requires { (p.2 ≤ 7) × OfJ k m.now }
     ensures { result ≡ masked0 k (columns_of (block_of added ⊕ p.2 · (base k).J)) }
 {
-    let of_j = multiples::multiple(m, p.2);
-    let mask = columns::xor(added, of_j);
-    keys0(k, mask)
+    let multiple_of_j = multiples::multiple(m, p.2);
+    keys0(k, columns::xor(added, multiple_of_j))
 }
 
 // E in rows -1 and 0: lines 404 and 405. m is 0·J to 7·J, of which the mask is one.
@@ -114,14 +99,12 @@ pub fn e(k: Base, m: &[u32; 32], p: Pair, x: [u8; 16]) -> [u8; 16]
     requires { (Plain (row_of p) p.2) × OfJ k m.now }
     ensures { result ≡ E (base k) (row_of p) p.2 x }
 {
-    let number = p.2;
-    let of_j = multiples::multiple(m, number);
+    let of_j = multiples::multiple(m, p.2);
     if p.0 {
-        let keys = keys10(k, of_j);
-        return aes::aes10(keys, x);
+        aes::aes10(keys10(k, of_j), x)
+    } else {
+        aes::aes4(keys0(k, of_j), x)
     }
-    let keys = keys0(k, of_j);
-    aes::aes4(keys, x)
 }
 
 // E in rows 1 and 2, whose numbers count up: line 406. power is 2^floor((b - 1) / 8)·L for the second index b, which a loop carries along.
@@ -131,9 +114,8 @@ pub fn e_running(k: Base, m: &[u32; 32], p: Pair, power: Columns, x: [u8; 16]) -
 {
     let mask = masks::running_mask(m, p.2, power);
     if p.1 == 1 {
-        let keys = keys1(k, mask);
-        return aes::aes4(keys, x);
+        aes::aes4(keys1(k, mask), x)
+    } else {
+        aes::aes4(keys2(k, mask), x)
     }
-    let keys = keys2(k, mask);
-    aes::aes4(keys, x)
 }
