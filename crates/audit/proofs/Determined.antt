@@ -143,8 +143,7 @@ use Rattle.day_put.proofs.put_record.Reads as day-put-record
 use Rattle.day_put.proofs.put_records.Reads as day-put-records
 use Rattle.day_put.proofs.put_places.Reads as day-put-places
 use Rattle.day_write.proofs.write.Reads as day-write
-use Rattle.day_place.proofs.move_left.Reads as day-move-left
-use Rattle.day_place.proofs.move_right.Reads as day-move-right
+use Rattle.day_place.proofs.move_bytes.Reads as day-move-bytes
 use Rattle.day_place.proofs.put_index.Reads as day-put-index
 use Rattle.day_grow.proofs.put_grown.Reads as day-put-grown
 use Rattle.day_append.proofs.append.Reads as day-append
@@ -607,11 +606,8 @@ day_put_records_determined κs a z w e f p q = (one p.0 q.0, one p.1 q.1)
 pub day_put_places_determined : (κs : _) (a : _) (z w : _) (e f : _) → day-put-places.Learnt κs a z e → day-put-places.Learnt κs a w f → e.1.1.0.now ≡ f.1.1.0.now
 day_put_places_determined κs a z w e f p q = one p q
 
-pub day_move_left_determined : (κs : _) (a : _) (z w : _) (e f : _) → day-move-left.Learnt κs a z e → day-move-left.Learnt κs a w f → e.0.now ≡ f.0.now
-day_move_left_determined κs a z w e f p q = one p q
-
-pub day_move_right_determined : (κs : _) (a : _) (z w : _) (e f : _) → day-move-right.Learnt κs a z e → day-move-right.Learnt κs a w f → e.0.now ≡ f.0.now
-day_move_right_determined κs a z w e f p q = one p q
+pub day_move_bytes_determined : (κs : _) (a : _) (z w : _) (e f : _) → day-move-bytes.Learnt κs a z e → day-move-bytes.Learnt κs a w f → e.0.now ≡ f.0.now
+day_move_bytes_determined κs a z w e f p q = one p q
 
 pub day_put_index_determined : (κs : _) (a : _) (z w : _) (e f : _) → day-put-index.Learnt κs a z e → day-put-index.Learnt κs a w f → e.0.now ≡ f.0.now
 day_put_index_determined κs a z w e f p q = one p q

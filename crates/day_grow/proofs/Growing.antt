@@ -16,6 +16,7 @@ use Rattle.laws.proofs.DayWritten.{Layout, strings_long, records_append, record_
 use Rattle.laws.proofs.DayReading.{read_write}
 use Rattle.laws.proofs.DayGrown.{with_there, with_next}
 use Rattle.laws.specs.Placing.{placed}
+use Rattle.laws.proofs.Placed.{placed_then}
 use Rattle.day_place.specs.Walked.{end_of, places_of}
 use Rattle.day_place.proofs.Moved.{put_between}
 use Rattle.day_place.proofs.Walk.{walk_ends, walk_places, places_count}
@@ -99,6 +100,45 @@ module _ {f : Bytes} {first records : ℕ} (rows : Rows f first records) (r : Re
 
   pub rows_places : places_of (f ++ write_record r) first (records + 1) ≡ places_from first all
   rows_places = (λ i. places_of (one_more i) first (sym count i)) ∙ walk_places rows.front all first rows.here [] all_small
+
+-- ---- A record put behind the others of a buffer, and the index behind it
+
+module _ (B : Bytes) (at first records : ℕ) (rows : Rows (take at B) first records) (r : Record)
+    (file : at + 11 + length r.sealed + 4 + 4 * records ≤ 65536) (room : at + 11 + length r.sealed + 4 + 4 * records ≤ length B)
+    (out : Bytes) (put : out ≡ placed at (write_record r) B) where
+  abbrev w : Bytes
+  w = write_record r
+
+  abbrev end : ℕ
+  end = at + 7 + length r.sealed
+
+  before_long : length (take at B) ≡ at
+  before_long = length-take-le at B (omega arith)
+
+  old_and_new : take end out ≡ take at B ++ w
+  old_and_new = ap (take end) put ∙ front_put at w B end (omega (arith, record_long r)) (omega arith)
+
+  pub ends_behind : end_of (take end out) first (records + 1) ≡ end
+  ends_behind =
+      ap (λ (g : Bytes). end_of g first (records + 1)) old_and_new
+      ∙ rows_end rows r (omega (arith, before_long, record_long r))
+      ∙ omega (arith, before_long, record_long r)
+
+  pub index_behind : (last : Bytes) → last ≡ placed end (digits 256 4 (records + 1) ++ write_places (places_of (take end out) first (records + 1))) out
+      → last ≡ placed at (last_written (take at B) first records r) B
+  index_behind last is =
+      let index : Bytes → Bytes = λ g. digits 256 4 (records + 1) ++ write_places (places_of g first (records + 1)) in
+      let ps = places_of (take at B ++ w) first (records + 1) in
+      let here : end ≡ at + length w = omega (arith, record_long r) in
+      let long : length (index (take at B ++ w)) ≡ 8 + 4 * records =
+      omega
+      (arith, length-append (digits 256 4 (records + 1)) (write_places ps), length_digits 256 4 (records + 1), places_long ps, places_count (take at B ++ w) first (records + 1)) in
+      is ∙ (λ i. placed (here i) (index (old_and_new i)) (put i)) ∙ placed_then at w (index (take at B ++ w)) B (omega (arith, record_long r, long))
+
+-- the first record stands before them all
+pub first_inside : (B : Bytes) (at first records : ℕ) → at ≤ length B → Rows (take at B) first records → first ≤ at
+first_inside B at first records inside rows =
+    omega (arith, rows.here, ap length rows.is, length-append rows.front (write_records rows.rs), length-take-le at B inside)
 
 -- ---- The call's buffer
 

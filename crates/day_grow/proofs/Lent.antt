@@ -2,9 +2,13 @@
 use mathlib.Core.List.{[], ◌∷◌}
 use mathlib.Core.Path.{◌≡◌}
 use Prim.Native.Nat.{ℕ, ◌+◌, ◌-◌, ◌*◌}
-use lib.ListN.{length, take, drop}
+use native.Mathlib.Omega.{arith}
+use mir.Syntax.{w8}
+use mir.Val.{Fits}
+use lib.ListN.{length, get_or, take, drop}
 use Rattle.paper.specs.Strings.{Bytes, Below, digits}
 use Rattle.paper.specs.Document01.{write_strings}
+use Rattle.laws.proofs.Digits.{below_of}
 use Rattle.laws.specs.Placing.{placed}
 use Rattle.day_grow.specs.Grown.{Ready}
 
@@ -21,6 +25,24 @@ pub record Lent : Type 0 where
   pub stretch : ℕ
   pub sealed : Bytes
   pub ready : Ready buffer size headers records first number header stretch sealed
+
+-- the call's buffer, whose entries are bytes
+abbrev pub lent : {buffer : Bytes} {size headers records first number : ℕ} {header : Bytes} {stretch : ℕ} {sealed : Bytes}
+    → Ready buffer size headers records first number header stretch sealed → ((i : ℕ) → Fits w8 (get_or buffer i 0)) → Lent
+lent {buffer} {size} {headers} {records} {first} {number} {header} {stretch} {sealed} ready bytes =
+    record {
+      buffer = buffer;
+      low = below_of 256 buffer (λ i p. omega (arith, bytes i));
+      size = size;
+      headers = headers;
+      records = records;
+      first = first;
+      number = number;
+      header = header;
+      stretch = stretch;
+      sealed = sealed;
+      ready = ready;
+    }
 
 -- where its records end
 abbrev pub last_of : Lent → ℕ

@@ -1,2 +1,3 @@
 mod Lent
 mod Growing
+pub mod Sizes

@@ -46,19 +46,19 @@ pub fn put_grown(
     let last = size - 4 - 4 * records;
     if number < headers {
         put_last(out, records, first, last, number, stretch, sealed);
-        return;
+    } else {
+        let more = 2 + header.len();
+        day_place::move_bytes(out, end + more, end, last - end);
+        builder::put(out, end, header);
+        numbers::put::<4>(out, 0, headers + 1);
+        put_last(
+            out,
+            records,
+            first + more,
+            last + more,
+            number,
+            stretch,
+            sealed,
+        );
     }
-    let more = 2 + header.len();
-    day_place::move_right(out, end + more, end, last - end);
-    builder::put(out, end, header);
-    numbers::put::<4>(out, 0, headers + 1);
-    put_last(
-        out,
-        records,
-        first + more,
-        last + more,
-        number,
-        stretch,
-        sealed,
-    );
 }

@@ -141,7 +141,7 @@ fn move_kept(out: &mut [u8], to: usize, from: usize, n: usize, set: usize) -> us
     ensures { (result ≡ to + length (kept_part set (take n (drop from out.old)))) × (out.new ≡ placed to (kept_part set (take n (drop from out.old))) out.old) }
 {
     if set == 1 {
-        day_place::move_left(out, to, from, n);
+        day_place::move_bytes(out, to, from, n);
         return to + n;
     }
     to
@@ -183,7 +183,7 @@ fn put_kept(
     }
     let n = count(table, before, number);
     numbers::put::<2>(out, to, n);
-    day_place::move_left(out, to + 2, from + 2, end - (from + 2));
+    day_place::move_bytes(out, to + 2, from + 2, end - (from + 2));
     to + (end - from)
 }
 

@@ -1,3 +1,4 @@
 pub mod Moved
 pub mod Walk
+pub mod Index
 pub mod Held

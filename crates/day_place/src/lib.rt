@@ -8,28 +8,12 @@ ghost use Rattle.paper.specs.DayFile.{write_places};
 ghost use Rattle.laws.specs.Placing.{placed};
 ghost use Rattle.day_place.specs.Walked.{end_of, places_of};
 
-// n bytes put at an earlier place, from the first on, and every other byte kept.
-pub fn move_left(out: &mut [u8], to: usize, from: usize, n: usize)
-    requires { (to ≤ from) × (from + n ≤ length out.old) }
+// n bytes put at another place, which may overlap their own, and every other byte kept.
+pub fn move_bytes(out: &mut [u8], to: usize, from: usize, n: usize)
+    requires { (from + n ≤ length out.old) × (to + n ≤ length out.old) }
     ensures { out.new ≡ placed to (take n (drop from out.old)) out.old }
 {
-    let mut i: usize = 0;
-    while i < n {
-        out[to + i] = out[from + i];
-        i += 1;
-    }
-}
-
-// n bytes put at a later place, from the last on, and every other byte kept.
-pub fn move_right(out: &mut [u8], to: usize, from: usize, n: usize)
-    requires { (from ≤ to) × (to + n ≤ length out.old) }
-    ensures { out.new ≡ placed to (take n (drop from out.old)) out.old }
-{
-    let mut left = n;
-    while 0 < left {
-        left -= 1;
-        out[to + left] = out[from + left];
-    }
+    out.copy_within(from..from + n, to);
 }
 
 // The places of so many records, which stand from one place to another, put after a number of bytes that follow them.
@@ -38,12 +22,9 @@ fn put_places(out: &mut [u8], first: usize, records: usize, at: usize)
     ensures { out.new ≡ placed (at + 4) (write_places (places_of (take at out.old) first records)) out.old }
 {
     let mut place = first;
-    let mut i: usize = 0;
-    while i < records {
+    for i in 0..records {
         numbers::put::<4>(out, at + 4 + 4 * i, place);
-        let e = day_steps::entry_at(&out[..at], place);
-        place = e.end;
-        i += 1;
+        place = day_steps::entry_at(&out[..at], place).end;
     }
 }
 

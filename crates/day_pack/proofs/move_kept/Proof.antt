@@ -30,5 +30,5 @@ move_kept_spec = tie.close (tie.spec
     let X : Bytes = take a.n (drop a.from a.out.now) in
     let is = part_set a.set X (omega arith) in
     let long : length X ≡ a.n = length-take-le a.n (drop a.from a.out.now) (omega (arith, length-drop a.from a.out.now, s.requires.1)) in
-    (omega (arith, ap length is, long), m.move_left.ensures ∙ ap (λ (w : Bytes). placed a.to w a.out.now) (sym is)))
+    (omega (arith, ap length is, long), m.move_bytes.ensures ∙ ap (λ (w : Bytes). placed a.to w a.out.now) (sym is)))
     returns)

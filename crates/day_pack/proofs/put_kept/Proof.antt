@@ -36,8 +36,8 @@ returns c =
     let X : Bytes = take (a.end - (a.from + 2)) (drop (a.from + 2) a.out.now) in
     let number = bits_below a.table.now a.number in
     let is : digits 256 2 number ++ X ≡ record_part a.dropped number X = ap (λ (b : Bool). record_part b number X) (sym e.if-dropped.false) in
-    let put = kept_put a.out.now p.put.new.out m.move_left.new.out a.to a.from a.end n.count-n.result number s.requires.0 s.requires.1 s.requires.2 n.count-n.ensures p.put.ensures m.move_left.ensures in
-    let long = kept_long a.out.now p.put.new.out m.move_left.new.out a.to a.from a.end n.count-n.result number s.requires.0 s.requires.1 s.requires.2 n.count-n.ensures p.put.ensures m.move_left.ensures in
+    let put = kept_put a.out.now p.put.new.out m.move_bytes.new.out a.to a.from a.end n.count-n.result number s.requires.0 s.requires.1 s.requires.2 n.count-n.ensures p.put.ensures m.move_bytes.ensures in
+    let long = kept_long a.out.now p.put.new.out m.move_bytes.new.out a.to a.from a.end n.count-n.result number s.requires.0 s.requires.1 s.requires.2 n.count-n.ensures p.put.ensures m.move_bytes.ensures in
     (long ∙ ap (λ (w : Bytes). a.to + length w) is, put ∙ ap (λ (w : Bytes). placed a.to w a.out.now) is)
 
 pub put_kept_spec : {M : Type 1} → statement M
