@@ -11,7 +11,7 @@ ghost use Rattle.paper.specs.DayEdits.{clearing, appending};
 
 use answer::StretchBytes;
 use day::Checked;
-use header::Reading;
+use header::BadEntry;
 
 // Sealing.
 pub fn aez_seal(key: &[u8], header: &[u8], stretch: u64, text: &[u8], out: &mut [u8]) -> u32
@@ -66,12 +66,12 @@ pub fn aez_header_read(header: &[u8], strings: &mut u64, place: &mut u64) -> u32
     ensures { (result ≡ (told (reading header.now)).number) × (strings.new ≡ (told (reading header.now)).strings) × (place.new ≡ (told (reading header.now)).place) }
 {
     match header::read(header) {
-        Reading::Strings(n) => {
+        Ok(n) => {
             *strings = n as u64;
             *place = 0;
             0
         }
-        Reading::Bad(k) => {
+        Err(BadEntry(k)) => {
             *strings = 0;
             *place = k as u64;
             3

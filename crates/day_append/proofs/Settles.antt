@@ -17,7 +17,8 @@ use Rattle.paper.specs.DayEdits.{grown, append_fits, append_in, appending}
 use Rattle.laws.proofs.Digits.{below_take}
 use Rattle.laws.proofs.DayReading.{read_write}
 use Rattle.laws.proofs.DayGrown.{grown_long}
-use Rattle.header.specs.declared.Reading.TheVariants.{Strings, Bad}
+use Rattle.header.specs.declared.BadEntry.{BadEntry}
+use Rattle.std.specs.Prelude.{Ok, Err}
 use Rattle.header.specs.Places.{read_as}
 use Rattle.header.proofs.Fits.{reads_fits, bad_fits}
 use Rattle.laws.specs.Placing.{placed}
@@ -65,11 +66,11 @@ module _ (number : ℕ) (header : Bytes) (stretch headers : ℕ) where
   pub unfit_number : headers ≤ number → (number ≡ headers → ⊥) → false ≡ append_fits number header stretch headers
   unfit_number p q = by_tests {f = header_fits header} {e = leb stretch 64} (le-ltb number headers p) (ne_eqb number headers q) refl refl
 
-  pub unfit_header : number ≡ headers → (k : ℕ) → Bad k ≡ read_as (reading header) → false ≡ append_fits number header stretch headers
+  pub unfit_header : number ≡ headers → (k : BadEntry) → Err k ≡ read_as (reading header) → false ≡ append_fits number header stretch headers
   unfit_header p k q =
       by_tests {e = leb stretch 64} (le-ltb number headers (omega arith)) (eq-eqb number headers p) (bad_fits header k q) refl
 
-  pub fit_next : stretch ≤ 64 → number ≡ headers → (n : ℕ) → Strings n ≡ read_as (reading header) → true ≡ append_fits number header stretch headers
+  pub fit_next : stretch ≤ 64 → number ≡ headers → (n : ℕ) → Ok n ≡ read_as (reading header) → true ≡ append_fits number header stretch headers
   fit_next p q n r =
       by_tests (le-ltb number headers (omega arith)) (eq-eqb number headers q) (reads_fits header n r) (le-leb stretch 64 p)
 

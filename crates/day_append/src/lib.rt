@@ -8,7 +8,6 @@ ghost use Rattle.day_append.specs.Appended.{capped, taken};
 
 use answer::Answer;
 use day::Checked;
-use header::Reading;
 
 // Whether an append is within the layout, where the file has so many headers.
 fn fits(headers: usize, number: u64, header: &[u8], stretch: u64) -> bool
@@ -23,7 +22,7 @@ fn fits(headers: usize, number: u64, header: &[u8], stretch: u64) -> bool
     if number != headers as u64 {
         return false;
     }
-    let Reading::Strings(_) = header::read(header) else {
+    let Ok(_) = header::read(header) else {
         return false;
     };
     true

@@ -5,8 +5,6 @@ ghost use Rattle.std.specs.Prelude.{◌≡◌};
 ghost use Rattle.paper.specs.DayFile.{present, headers_of};
 ghost use Rattle.day_fit.specs.Fits.{records_right};
 
-use header::Reading;
-
 // Whether joined headers are of these lengths, and each reads.
 pub fn headers_fit(lengths: &[u64], headers: &[u8]) -> bool
     ensures { result ≡ present (headers_of lengths.now headers.now) }
@@ -19,7 +17,7 @@ pub fn headers_fit(lengths: &[u64], headers: &[u8]) -> bool
             return false;
         }
         let end = at + n as usize;
-        let Reading::Strings(_) = header::read(&headers[at..end]) else {
+        let Ok(_) = header::read(&headers[at..end]) else {
             return false;
         };
         at = end;

@@ -1,6 +1,7 @@
 -- One header and one record at a place of a file: each way in which the code leaves them is one case of the definition.
 use mathlib.Core.Bool.{Bool, true, false, ◌&&◌}
 use mathlib.Core.Option.{none}
+use Rattle.std.specs.Prelude.{Ok, Err}
 use mathlib.Core.Path.{◌≡◌, refl, ap, sym, ◌∙◌}
 use Prim.Native.Nat.{ℕ, suc, ◌+◌, ◌-◌, ◌≤◌, ◌<◌}
 use native.Mathlib.Omega.{arith}
@@ -12,7 +13,7 @@ use Rattle.paper.specs.Strings.{Bytes}
 use Rattle.paper.specs.Document01.{reading}
 use Rattle.paper.specs.DayFile.{value, header_fits, before, read_headers, read_records}
 use Rattle.laws.proofs.DaySteps.{header_reads, header_past, header_unread, record_reads, record_past, record_outside}
-use Rattle.header.specs.declared.Reading.TheVariants.{Strings, Bad}
+use Rattle.header.specs.declared.BadEntry.{BadEntry}
 use Rattle.header.specs.Places.{read_as}
 use Rattle.header.proofs.Fits.{reads_fits, bad_fits}
 use Rattle.day_steps.specs.Walks.{entry_at, record_of}
@@ -38,11 +39,11 @@ module _ (f : Bytes) (at : ℕ) (inside : at ≤ length f) where
     part_is = let own : size ≡ at + 2 + size - (at + 2) = omega arith in λ i. take (own i) (drop-drop 2 at f i)
 
     module _ (fits : size ≤ length f - (at + 2)) where
-      pub header_bad : (k : ℕ) → Bad k ≡ read_as (reading header_part) → (n : ℕ) → read_headers (suc n) (drop at f) ≡ none
+      pub header_bad : (k : BadEntry) → Err k ≡ read_as (reading header_part) → (n : ℕ) → read_headers (suc n) (drop at f) ≡ none
       header_bad k p n =
           header_unread n (drop at f) size (sym sized) (omega (arith, rest_long)) (ap header_fits part_is ∙ bad_fits header_part k p)
 
-      pub header_good : (k : ℕ) → Strings k ≡ read_as (reading header_part) → (n : ℕ)
+      pub header_good : (k : ℕ) → Ok k ≡ read_as (reading header_part) → (n : ℕ)
           → read_headers (suc n) (drop at f) ≡ before header_part (read_headers n (drop (at + 2 + size) f))
       header_good k p n =
           let past : drop (2 + size) (drop at f) ≡ drop (at + 2 + size) f =

@@ -1,10 +1,9 @@
 -- The steps of a walk over a day file, and what the definition reads of it.
-use Rattle.std.specs.Prelude.{List, ◌≡◌, ℕ, suc, ◌+◌, ◌-◌, ◌≤◌, length, get_or, take, drop}
+use Rattle.std.specs.Prelude.{List, ◌≡◌, ℕ, suc, ◌+◌, ◌-◌, ◌≤◌, length, get_or, take, drop, Option, Some, None}
 use Rattle.std.proofs.Math.Option.{none, some}
 use Rattle.paper.specs.Strings.{Bytes}
 use Rattle.paper.specs.DayFile.{Record, value, before, read_headers, read_records}
 use Rattle.header.specs.declared.Place.{Place}
-use Rattle.header.specs.declared.Place.TheVariants as place
 use Rattle.day_steps.specs.declared.Entry.{Entry}
 use Rattle.day_steps.specs.declared.Step.{Step}
 use Rattle.day_steps.specs.declared.Step.TheVariants as step
@@ -14,10 +13,10 @@ use Rattle.day_steps.specs.declared.Walk.TheVariants as walk
 -- ---- One header, one record
 
 -- the header whose two length bytes stand at a place: where it is bad, nothing reads from there, and else the definition goes on after it
-abbrev pub HeaderStep : Place → Bytes → ℕ → Type 0
-HeaderStep place.Bad file at = (n : ℕ) → read_headers (suc n) (drop at file) ≡ none
-HeaderStep (place.At start end) file at =
-    (start ≤ end) × (end ≤ length file) × ((n : ℕ) → read_headers (suc n) (drop at file) ≡ before (take (end - start) (drop start file)) (read_headers n (drop end file)))
+abbrev pub HeaderStep : Option Place → Bytes → ℕ → Type 0
+HeaderStep None file at = (n : ℕ) → read_headers (suc n) (drop at file) ≡ none
+HeaderStep (Some p) file at =
+    (p.start ≤ p.end) × (p.end ≤ length file) × ((n : ℕ) → read_headers (suc n) (drop at file) ≡ before (take (p.end - p.start) (drop p.start file)) (read_headers n (drop p.end file)))
 
 -- the fields of the record at a place
 abbrev pub entry_at : Bytes → ℕ → Entry

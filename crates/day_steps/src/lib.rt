@@ -5,7 +5,7 @@
 ghost use Rattle.std.specs.Prelude.{◌≡◌, ◌+◌, ◌<◌, ◌≤◌, length};
 ghost use Rattle.day_steps.specs.Walks.{entry_at, HeaderStep, RecordStep, HeadersWalk};
 
-use header::{Place, Reading};
+use header::Place;
 
 // A record: its header's number, its stretch, and where its sealed bytes start and end. The next record stands at their end.
 #[derive(Clone, Copy)]
@@ -31,23 +31,23 @@ pub enum Walk {
 }
 
 // The header whose two length bytes stand at a place.
-fn header_at(file: &[u8], at: usize) -> Place
+fn header_at(file: &[u8], at: usize) -> Option<Place>
     requires { at ≤ length file.now }
     ensures { HeaderStep result file.now at }
 {
     if file.len() - at < 2 {
-        return Place::Bad;
+        return None;
     }
     let size = numbers::read::<2>(file, at);
     let start = at + 2;
     if file.len() - start < size {
-        return Place::Bad;
+        return None;
     }
     let end = start + size;
-    let Reading::Strings(_) = header::read(&file[start..end]) else {
-        return Place::Bad;
+    let Ok(_) = header::read(&file[start..end]) else {
+        return None;
     };
-    Place::At(start, end)
+    Some(Place { start, end })
 }
 
 // The fields of the record at a place of a file.
@@ -96,10 +96,10 @@ pub fn headers_end(file: &[u8], headers: usize) -> Walk
     let mut at: usize = 4;
     let mut left = headers;
     while 0 < left {
-        let Place::At(_, end) = header_at(file, at) else {
+        let Some(place) = header_at(file, at) else {
             return Walk::Bad;
         };
-        at = end;
+        at = place.end;
         left -= 1;
     }
     Walk::To(at)

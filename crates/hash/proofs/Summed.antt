@@ -10,8 +10,9 @@ use Rattle.paper.specs.Document01.{Read, as_strings, bad_entry, in_front, read_s
 use Rattle.laws.proofs.Strings.{⊕_assoc, ⊕_zeros}
 use Rattle.laws.proofs.Hash.{hash_more, hash_none}
 use Rattle.header.specs.Places.{entry_at, count_of}
-use Rattle.header.specs.declared.Place.TheVariants.{At, Bad}
-use Rattle.header.specs.declared.Reading.TheVariants as answers
+use Rattle.header.specs.declared.Place.{Place}
+use Rattle.header.specs.declared.BadEntry.{BadEntry}
+use Rattle.std.specs.Prelude.{Some, None, Ok, Err}
 use Rattle.header.proofs.Walk.{count_reads, entry_reads, end_reads, end_bad}
 use Rattle.hash.specs.Delta.{delta_of}
 
@@ -37,28 +38,28 @@ module _ (f : BlockFunction) where
 
   module _ (h : Bytes) where
     -- a count that does not read
-    pub not_counted : (τ k : ℕ) → answers.Bad k ≡ count_of h → zeros ≡ delta_of f τ (read_header h)
+    pub not_counted : (τ : ℕ) (k : BadEntry) → Err k ≡ count_of h → zeros ≡ delta_of f τ (read_header h)
     unfolding read_header
-    not_counted τ k e = ap (λ (r : Read). delta_of f τ (strings_of r)) (sym (count_reads h (answers.Bad k) e))
+    not_counted τ k e = ap (λ (r : Read). delta_of f τ (strings_of r)) (sym (count_reads h (Err k) e))
 
     -- before the first entry
-    pub begun : (τ n : ℕ) (total : Bytes) → answers.Strings n ≡ count_of h → total ≡ hash_string f 1 (number τ) → delta_of f τ (read_header h) ≡ summed h total 1 2 n
+    pub begun : (τ n : ℕ) (total : Bytes) → Ok n ≡ count_of h → total ≡ hash_string f 1 (number τ) → delta_of f τ (read_header h) ≡ summed h total 1 2 n
     unfolding read_header
-    begun τ n total e b = delta_plus τ (reading h) ∙ (λ i. plus (sym b i) 2 (count_reads h (answers.Strings n) e i))
+    begun τ n total e b = delta_plus τ (reading h) ∙ (λ i. plus (sym b i) 2 (count_reads h (Ok n) e i))
 
     module _ (total : Bytes) (at i left : ℕ) where
       -- the string of one entry is added
-      pub turn : (start end : ℕ) (more : Bytes) → 1 ≤ i → 0 < left → At start end ≡ entry_at h at
-          → more ≡ total ⊕ hash_string f i (take (end - start) (drop start h)) → summed h total at i left ≡ summed h more end (i + 1) (left - 1)
-      turn start end more first p e m =
+      pub turn : (p : Place) (more : Bytes) → 1 ≤ i → 0 < left → Some p ≡ entry_at h at
+          → more ≡ total ⊕ hash_string f i (take (p.end - p.start) (drop p.start h)) → summed h total at i left ≡ summed h more p.end (i + 1) (left - 1)
+      turn p more first q e m =
           let next : suc (i - 1) ≡ i + 1 - 1 = omega arith in
-          ap (plus total i) (entry_reads (i - 1) left at h (At start end) p e)
-          ∙ plus_one total i (take (end - start) (drop start h)) (read_strings (suc (i - 1)) (left - 1) (drop end h))
-          ∙ (λ j. plus (sym m j) (i + 1) (read_strings (next j) (left - 1) (drop end h)))
+          ap (plus total i) (entry_reads (i - 1) left at h (Some p) q e)
+          ∙ plus_one total i (take (p.end - p.start) (drop p.start h)) (read_strings (suc (i - 1)) (left - 1) (drop p.end h))
+          ∙ (λ j. plus (sym m j) (i + 1) (read_strings (next j) (left - 1) (drop p.end h)))
 
       -- an entry that does not read
-      pub stop : 0 < left → Bad ≡ entry_at h at → summed h total at i left ≡ zeros
-      stop p e = ap (plus total i) (entry_reads (i - 1) left at h Bad p e)
+      pub stop : 0 < left → None ≡ entry_at h at → summed h total at i left ≡ zeros
+      stop p e = ap (plus total i) (entry_reads (i - 1) left at h None p e)
 
       -- nothing after the last entry
       pub good : left ≤ 0 → at ≡ length h → length total ≤ 16 → summed h total at i left ≡ total

@@ -9,7 +9,6 @@ ghost use Rattle.hash.specs.Delta.{delta_of};
 ghost use Rattle.hash.specs.Fitted.{fitted};
 
 use answer::StretchBits;
-use header::{Place, Reading};
 
 // Lines 300 to 307: Δ of the tweak that holds the stretch and the strings of a header, or zero for a header that does not read. One walk
 // tests the entries and hashes their strings, each of which is lent from where it begins in the header.
@@ -17,7 +16,7 @@ pub fn delta(k: key::Key, stretch: StretchBits, h: &[u8]) -> [u8; 16]
     requires { Kept k }
     ensures { result ≡ delta_of (E (blocks k)) stretch.0 (read_header h.now) }
 {
-    let Reading::Strings(count) = header::count(h) else {
+    let Ok(count) = header::count(h) else {
         return [0u8; 16];
     };
     let b = k.base();
@@ -30,12 +29,12 @@ pub fn delta(k: key::Key, stretch: StretchBits, h: &[u8]) -> [u8; 16]
     let mut i: u32 = 2;
     let mut left = count;
     while 0 < left {
-        let Place::At(start, end) = header::entry(h, at) else {
+        let Some(place) = header::entry(h, at) else {
             return [0u8; 16];
         };
-        let more = strings::add_string(k, b, &m, i, &h[start..end], &mut g, hashed);
+        let more = strings::add_string(k, b, &m, i, &h[place.start..place.end], &mut g, hashed);
         hashed = more;
-        at = end;
+        at = place.end;
         i += 1;
         left -= 1;
     }

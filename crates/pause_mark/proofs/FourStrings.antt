@@ -9,15 +9,16 @@ use native.Mathlib.Omega.{arith}
 use borrow.Author.Tests.{le-ltb}
 use lib.ListN.{length, get_or, take, drop, length-drop}
 use lib.Seq.{drop-cons, drop-drop, get_or-drop, take-append_seam, drop-append_seam}
-use Rattle.std.specs.Prelude.{if◌then◌else◌}
+use Rattle.std.specs.Prelude.{if◌then◌else◌, Some, None, Ok, Err}
+use Rattle.std.specs.Prelude as O
 use Rattle.paper.specs.Strings.{Bytes, Below, digits}
 use Rattle.paper.specs.Document01.{Read, as_strings, bad_entry, reading, strings_of, read_header, write_strings, write_header}
 use Rattle.paper.specs.Pause.{header_mark, mark_of}
 use Rattle.laws.proofs.Headers.{AllFit, read_write, read_readable}
 use Rattle.laws.proofs.DayWritten.{strings_long}
 use Rattle.laws.proofs.LedgerSums.{IfMark, mark_of_lem}
-use Rattle.header.specs.declared.Place.TheVariants.{At, Bad}
-use Rattle.header.specs.declared.Reading.TheVariants as answers
+use Rattle.header.specs.declared.Place.{Place}
+use Rattle.header.specs.declared.BadEntry.{BadEntry}
 use Rattle.header.specs.Places.{size_at, entry_at, read_as}
 use Rattle.pause_mark.specs.declared.Mark.TheVariants as mark
 use Rattle.pause_unit.specs.Answers.{or_zero}
@@ -25,19 +26,19 @@ use Rattle.pause_mark.specs.Marks.{known_as, mark_as}
 
 -- ---- What the header's reader says
 
-pub strings_read : (h : Bytes) (n : ℕ) → answers.Strings n ≡ read_as (reading h) → (ss : List Bytes) × (read_header h ≡ some ss) × (length ss ≡ n)
+pub strings_read : (h : Bytes) (n : ℕ) → Ok n ≡ read_as (reading h) → (ss : List Bytes) × (read_header h ≡ some ss) × (length ss ≡ n)
 unfolding read_header
 strings_read h n e = go (reading h) e
   where
-    go : (r : Read) → answers.Strings n ≡ read_as r → (ss : List Bytes) × (strings_of r ≡ some ss) × (length ss ≡ n)
+    go : (r : Read) → Ok n ≡ read_as r → (ss : List Bytes) × (strings_of r ≡ some ss) × (length ss ≡ n)
     go (bad_entry k) e = absurd (let z : ◌≡◌ {A = ℕ} 0 1 = cc in omega arith)
     go (as_strings ss) e = (ss, refl, cc)
 
-pub not_read : (h : Bytes) (k : ℕ) → answers.Bad k ≡ read_as (reading h) → mark.Refused 3 ≡ mark_as (read_header h)
+pub not_read : (h : Bytes) (k : BadEntry) → Err k ≡ read_as (reading h) → mark.Refused 3 ≡ mark_as (read_header h)
 unfolding read_header
 not_read h k e = go (reading h) e
   where
-    go : (r : Read) → answers.Bad k ≡ read_as r → mark.Refused 3 ≡ mark_as (strings_of r)
+    go : (r : Read) → Err k ≡ read_as r → mark.Refused 3 ≡ mark_as (strings_of r)
     go (bad_entry j) e = refl
     go (as_strings ss) e = cc
 
@@ -81,14 +82,17 @@ module _ (h : Bytes) (at : ℕ) (s : Bytes) (ss : List Bytes) (there : drop at h
       let second : get_or h (at + 1) 0 ≡ length s % 256 = sym (get_or-drop at h 1 0) ∙ ap (λ (X : Bytes). get_or X 1 0) bytes in
       omega (arith, first, second)
 
-  pub entry_is : entry_at h at ≡ At (at + 2) (at + 2 + length s)
+  abbrev placed_at : ℕ → O.Option Place
+  placed_at n = Some (record { start = at + 2; end = at + 2 + n })
+
+  pub entry_is : entry_at h at ≡ Some (record { start = at + 2; end = at + 2 + length s })
   unfolding entry_at
   entry_is =
-      (λ i. if le-ltb (length h) (at + 2) (omega (arith, room)) i then Bad
-      else if le-ltb 1024 (size_at h at) (omega (arith, size)) i then Bad
-      else if le-ltb (length h) (at + 2 + size_at h at) (omega (arith, size, room)) i then Bad
-      else At (at + 2) (at + 2 + size_at h at))
-      ∙ ap (λ (n : ℕ). At (at + 2) (at + 2 + n)) size
+      (λ i. if le-ltb (length h) (at + 2) (omega (arith, room)) i then None
+      else if le-ltb 1024 (size_at h at) (omega (arith, size)) i then None
+      else if le-ltb (length h) (at + 2 + size_at h at) (omega (arith, size, room)) i then None
+      else Some (record { start = at + 2; end = at + 2 + size_at h at }))
+      ∙ ap placed_at size
 
   after : drop (at + 2) h ≡ s ++ write_strings ss
   after = sym (drop-drop 2 at h) ∙ ap (drop 2) bytes
@@ -98,6 +102,9 @@ module _ (h : Bytes) (at : ℕ) (s : Bytes) (ss : List Bytes) (there : drop at h
 
   pub next_there : drop (at + 2 + length s) h ≡ write_strings ss
   next_there = sym (drop-drop (length s) (at + 2) h) ∙ ap (drop (length s)) after ∙ drop-append_seam s (write_strings ss)
+
+place_of : (p q : Place) → Some p ≡ Some q → p ≡ q
+place_of p q e = cc
 
 -- ---- A walk over the strings
 
@@ -128,20 +135,20 @@ module _ (h : Bytes) (low : Below 256 h) (i at : ℕ) (few : i < 4) (w : Walked 
   own_short = string_fits w.strings i (read_readable h w.strings low w.reads).each (omega (arith, w.four))
 
   -- the entry is never bad
-  pub never_bad : Bad ≡ entry_at h at → ⊥
-  never_bad e = let z : ◌≡◌ {A = ℕ} 0 1 = (let both : Bad ≡ At (at + 2) (at + 2 + length own) = e ∙ entry_is h at own (drop (suc i) w.strings) own_there own_short in cc) in omega arith
+  pub never_bad : None ≡ entry_at h at → ⊥
+  never_bad e = let z : ◌≡◌ {A = ℕ} 0 1 = (let both : ◌≡◌ {A = O.Option Place} None (Some (record { start = at + 2; end = at + 2 + length own })) = e ∙ entry_is h at own (drop (suc i) w.strings) own_there own_short in cc) in omega arith
 
-  module _ (start end : ℕ) (is : At start end ≡ entry_at h at) where
-    placed : At start end ≡ At (at + 2) (at + 2 + length own)
-    placed = is ∙ entry_is h at own (drop (suc i) w.strings) own_there own_short
+  module _ (p : Place) (is : Some p ≡ entry_at h at) where
+    placed : p ≡ record { start = at + 2; end = at + 2 + length own }
+    placed = place_of _ _ (is ∙ entry_is h at own (drop (suc i) w.strings) own_there own_short)
 
-    start_is : start ≡ at + 2
-    start_is = cc placed
+    start_is : p.start ≡ at + 2
+    start_is = ap (λ (p : Place). p.start) placed
 
-    end_is : end ≡ at + 2 + length own
-    end_is = cc placed
+    end_is : p.end ≡ at + 2 + length own
+    end_is = ap (λ (p : Place). p.end) placed
 
-    pub goes_on : Walked h (i + 1) end
+    pub goes_on : Walked h (i + 1) p.end
     goes_on = record {
       strings = w.strings;
       reads = w.reads;
@@ -152,9 +159,9 @@ module _ (h : Bytes) (low : Below 256 h) (i at : ℕ) (few : i < 4) (w : Walked 
           ∙ ap (λ (k : ℕ). write_strings (drop k w.strings)) (sym (add-one i));
     }
 
-    pub own_part : take (end - start) (drop start h) ≡ own
+    pub own_part : take (p.end - p.start) (drop p.start h) ≡ own
     own_part =
-        let long : end - start ≡ length own = omega (arith, start_is, end_is) in
+        let long : p.end - p.start ≡ length own = omega (arith, start_is, end_is) in
         (λ j. take (long j) (drop (start_is j) h)) ∙ string_there h at own (drop (suc i) w.strings) own_there own_short
 
 -- the mark of the fourth string

@@ -7,8 +7,6 @@ ghost use Rattle.paper.specs.Pause.{mark_of};
 ghost use Rattle.pause_unit.specs.Answers.{or_zero};
 ghost use Rattle.pause_mark.specs.Marks.{mark_as};
 
-use header::{Place, Reading};
-
 // The decimal mark of a header, or the number by which it is refused: 3 or 15.
 #[derive(Clone, Copy)]
 pub enum Mark {
@@ -63,7 +61,7 @@ fn mark_of(name: &[u8]) -> u8
 pub fn header_mark(header: &[u8]) -> Mark
     ensures { result ≡ mark_as (read_header header.now) }
 {
-    let Reading::Strings(n) = header::read(header) else {
+    let Ok(n) = header::read(header) else {
         return Mark::Refused(3);
     };
     if n != 4 {
@@ -72,16 +70,16 @@ pub fn header_mark(header: &[u8]) -> Mark
     let mut at: usize = 1;
     let mut i: usize = 0;
     while i < 3 {
-        let Place::At(_, end) = header::entry(header, at) else {
+        let Some(place) = header::entry(header, at) else {
             return Mark::Refused(3);
         };
-        at = end;
+        at = place.end;
         i += 1;
     }
-    let Place::At(start, end) = header::entry(header, at) else {
+    let Some(place) = header::entry(header, at) else {
         return Mark::Refused(3);
     };
-    let mark = mark_of(&header[start..end]);
+    let mark = mark_of(&header[place.start..place.end]);
     if mark == 0 {
         return Mark::Refused(15);
     }

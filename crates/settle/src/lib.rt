@@ -5,7 +5,6 @@ ghost use Rattle.std.specs.Prelude.{◌≡◌};
 ghost use Rattle.settle.specs.Settled.{settled_common, settled_sealing, settled_opening};
 
 use answer::StretchBytes;
-use header::Reading;
 
 // The first test that holds: its number, and beside 3 the header's bad entry that it is at. Number 0 where none holds.
 #[derive(Clone, Copy)]
@@ -25,8 +24,11 @@ fn settled(key: &[u8], header: &[u8], stretch: StretchBytes) -> Refusal
         return Refusal { number: 2, at: 0 };
     }
     match header::read(header) {
-        Reading::Bad(at) => Refusal { number: 3, at },
-        Reading::Strings(_) => Refusal { number: 0, at: 0 },
+        Err(bad) => Refusal {
+            number: 3,
+            at: bad.0,
+        },
+        Ok(_) => Refusal { number: 0, at: 0 },
     }
 }
 

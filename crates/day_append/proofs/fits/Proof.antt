@@ -18,7 +18,7 @@ returns : tie.Need-returns
 returns c =
     let r = c.before in
     let a = c.args in
-    fit_next a.number a.header.now a.stretch a.headers (omega arith) (omega arith) _ (rw c.in-Strings.is at r.read.ensures)
+    fit_next a.number a.header.now a.stretch a.headers (omega arith) (omega arith) _ (rw c.in-Ok.is at r.read.ensures)
 
 pub fits_spec : {M : Type 1} → statement M
 fits_spec =

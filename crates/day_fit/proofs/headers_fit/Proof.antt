@@ -78,7 +78,7 @@ loop-i-preserved : tie.Need-loop-i-preserved invariant-loop-i decreases-loop-i
 loop-i-preserved c =
     let r = c.before in
     let e = r.before.before in
-    let fit = ap header_fits (sym (part_is e)) ∙ reads_fits (take (at e + get_or (lengths e) (i e) 0 - at e) (drop (at e) (headers e))) _ (sym c.in-Strings.is ∙ r.read.ensures) in (
+    let fit = ap header_fits (sym (part_is e)) ∙ reads_fits (take (at e + get_or (lengths e) (i e) 0 - at e) (drop (at e) (headers e))) _ (sym c.in-Ok.is ∙ r.read.ensures) in (
       omega arith,
       omega arith,
       (looped e).loop-i.invariant.2

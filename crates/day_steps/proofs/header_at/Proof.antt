@@ -44,7 +44,7 @@ returns c =
       omega arith,
       omega arith,
       header_good (f t) (at t) (start t.before).requires t.read-size.result t.read-size.ensures.0 (omega arith) r.if-file-start.false
-          _ (rw c.in-Strings.is at r.read.ensures),
+          _ (rw c.in-Ok.is at r.read.ensures),
     )
 
 pub header_at_spec : {M : Type 1} → statement M

@@ -7,7 +7,7 @@ use borrow.Author.Rules.{rules}
 use lib.ListN.{length, take, drop}
 use Rattle.paper.specs.Strings.{Bytes}
 use Rattle.paper.specs.DayFile.{read_headers}
-use Rattle.header.specs.declared.Place.TheVariants.{At, Bad}
+use Rattle.std.specs.Prelude.{Some, None}
 use Rattle.day_steps.specs.Walks.{HeaderStep}
 use Rattle.day_steps.proofs.Sections.{ahead, ahead_none, headers_turn, headers_stop, headers_last}
 use Rattle.day_steps.proofs.headers_end.Statement.{statement}
@@ -35,7 +35,7 @@ returns-in_default c =
     let h = c.before in
     let l = (looped h).loop-left in
     let a = (start (looped h)).args in
-    let s : HeaderStep Bad a.file.now l.at = rw c.in_default.is at h.header_at.ensures in
+    let s : HeaderStep None a.file.now l.at = rw c.in_default.is at h.header_at.ensures in
     l.invariant.1.1 ∙ headers_stop a.file.now l.left l.at (omega arith) l.invariant.1.0 s
 
 loop-left-preserved : tie.Need-loop-left-preserved invariant-loop-left decreases-loop-left
@@ -43,10 +43,9 @@ loop-left-preserved c =
     let h = c.before in
     let l = (looped h).loop-left in
     let f = (start (looped h)).args.file.now in
-    let from = c.in-At.field-0 in
-    let to = c.in-At.end in
-    let s : HeaderStep (At from to) f l.at = rw c.in-At.is at h.header_at.ensures in
-    (s.1, (l.invariant.1.0 ++ take (to - from) (drop from f) ∷ [], l.invariant.1.1 ∙ headers_turn f l.left l.at (omega arith) l.invariant.1.0 from to s))
+    let p = c.in-Some.place in
+    let s : HeaderStep (Some p) f l.at = rw c.in-Some.is at h.header_at.ensures in
+    (s.1, (l.invariant.1.0 ++ take (p.end - p.start) (drop p.start f) ∷ [], l.invariant.1.1 ∙ headers_turn f l.left l.at (omega arith) l.invariant.1.0 p s))
 
 returns : tie.Need-returns invariant-loop-left decreases-loop-left
 returns c =

@@ -12,8 +12,8 @@ use Rattle.tbc.specs.Meaning.{base}
 use Rattle.key.specs.Meaning.{blocks}
 use Rattle.key.proofs.Keys.{has_blocks}
 use Rattle.header.specs.Places.{entry_at, Within, count_of, Few}
-use Rattle.header.specs.declared.Place.TheVariants.{At}
-use Rattle.header.specs.declared.Reading.TheVariants.{Strings}
+use Rattle.header.specs.declared.Place.{Place}
+use Rattle.std.specs.Prelude.{Some, Ok}
 use Rattle.hash.specs.Delta.{delta_of}
 use Rattle.strings.specs.declared.Sum.{Sum}
 use Rattle.strings.specs.Waiting.{Fits, so_far}
@@ -34,22 +34,22 @@ decreases-loop-left k h count b m g₀ hashed₀ at₀ i₀ left₀ g hashed at 
 abbrev start : tie.After-count invariant-loop-left decreases-loop-left → tie.Start invariant-loop-left decreases-loop-left
 start c = c.before.before
 
-abbrev entered : tie.In-Strings invariant-loop-left decreases-loop-left → tie.Start invariant-loop-left decreases-loop-left
+abbrev entered : tie.In-Ok invariant-loop-left decreases-loop-left → tie.Start invariant-loop-left decreases-loop-left
 entered c = start c.before
 
-module _ (c : tie.In-Strings invariant-loop-left decreases-loop-left) where
+module _ (c : tie.In-Ok invariant-loop-left decreases-loop-left) where
   abbrev count : ℕ
-  count = c.in-Strings.count
+  count = c.in-Ok.count
 
-  is_count : Strings count ≡ count_of (entered c).args.h.now
-  is_count = rw c.in-Strings.is at c.count.ensures.0
+  is_count : Ok count ≡ count_of (entered c).args.h.now
+  is_count = rw c.in-Ok.is at c.count.ensures.0
 
-  is_few : Few (Strings count) (entered c).args.h.now
-  is_few = rw c.in-Strings.is at c.count.ensures.1
+  is_few : Few (Ok count) (entered c).args.h.now
+  is_few = rw c.in-Ok.is at c.count.ensures.1
 
 -- ---- What is taken out of the key, and the stretch
 
-abbrev counted : tie.After-base-b invariant-loop-left decreases-loop-left → tie.In-Strings invariant-loop-left decreases-loop-left
+abbrev counted : tie.After-base-b invariant-loop-left decreases-loop-left → tie.In-Ok invariant-loop-left decreases-loop-left
 counted c = c.before
 
 abbrev multiplied : tie.After-number-bits invariant-loop-left decreases-loop-left → tie.After-multiples-m invariant-loop-left decreases-loop-left
@@ -97,21 +97,18 @@ module _ (c : tie.At-loop-left invariant-loop-left decreases-loop-left) where
   is_base = has_blocks S₀.args.k _ S₀.well_formed.0 (taken (begin c)).base-b.result (taken (begin c)).base-b.ensures
 
 -- an entry that reads
-abbrev looped : tie.In-At invariant-loop-left decreases-loop-left → tie.At-loop-left invariant-loop-left decreases-loop-left
+abbrev looped : tie.In-Some invariant-loop-left decreases-loop-left → tie.At-loop-left invariant-loop-left decreases-loop-left
 looped c = c.before.before.before
 
-module _ (c : tie.In-At invariant-loop-left decreases-loop-left) where
-  abbrev from : ℕ
-  from = c.in-At.start
+module _ (c : tie.In-Some invariant-loop-left decreases-loop-left) where
+  abbrev place : Place
+  place = c.in-Some.place
 
-  abbrev to : ℕ
-  to = c.in-At.end
+  is_entry : Some place ≡ entry_at (h (looped c)) (looped c).loop-left.at
+  is_entry = rw c.in-Some.is at c.entry.ensures.0
 
-  is_entry : At from to ≡ entry_at (h (looped c)) (looped c).loop-left.at
-  is_entry = rw c.in-At.is at c.entry.ensures.0
-
-  is_within : Within (At from to) (h (looped c))
-  is_within = rw c.in-At.is at c.entry.ensures.1
+  is_within : Within (Some place) (h (looped c))
+  is_within = rw c.in-Some.is at c.entry.ensures.1
 
 returns-in_default : tie.Need-returns-in_default invariant-loop-left decreases-loop-left
 returns-in_default c =
@@ -139,12 +136,12 @@ returns-in_default-entry c =
     sym (so_far_lem s ∙ stop (F s) (h s) (so s) l.at l.i l.left p.loop-left-test.true (rw c.in_default-entry.is at p.entry.ensures.0))
 
 -- the part of an entry is lent
-abbrev read : tie.After-m-in-loop-left-1 invariant-loop-left decreases-loop-left → tie.In-At invariant-loop-left decreases-loop-left
+abbrev read : tie.After-m-in-loop-left-1 invariant-loop-left decreases-loop-left → tie.In-Some invariant-loop-left decreases-loop-left
 read c = c.before
 
 add_string-more-requires : tie.Need-add_string-more-requires invariant-loop-left decreases-loop-left
 add_string-more-requires c κs =
-    let p = read c.before.before in
+    let p = read c.before.before.before in
     let w = is_within p in
     let s = looped p in
     let l = s.loop-left in (
@@ -159,14 +156,14 @@ add_string-more-requires c κs =
 
 loop-left-preserved : tie.Need-loop-left-preserved invariant-loop-left decreases-loop-left
 loop-left-preserved c =
-    let p = read c.before.before.before in
+    let p = read c.before.before.before.before in
     let s = looped p in
     let l = s.loop-left in (
       (is_within p).1,
       omega (arith, l.invariant.1),
       omega arith,
       l.invariant.3,
-      l.invariant.4 ∙ turn (F s) (h s) (so s) l.at l.i l.left (from p) (to p) _ (omega (arith, l.invariant.1, l.invariant.2)) (omega arith) (is_entry p) c.add_string-more.ensures.1,
+      l.invariant.4 ∙ turn (F s) (h s) (so s) l.at l.i l.left (place p) _ (omega (arith, l.invariant.1, l.invariant.2)) (omega arith) (is_entry p) c.add_string-more.ensures.1,
       c.add_string-more.ensures.0,
     )
 
@@ -203,9 +200,9 @@ delta_spec =
     (λ c. search rules)
     (λ c. search rules)
     returns-in_default-entry
-    (λ c. (is_within (read c)).0)
-    (λ c. (is_within (read c)).0)
-    (λ c. (is_within (read c)).1)
+    (λ c. (is_within (read c.before)).0)
+    (λ c. (is_within (read c.before)).0)
+    (λ c. (is_within (read c.before)).1)
     add_string-more-requires
     (λ c. search rules)
     (λ c. search rules)

@@ -10,7 +10,7 @@ use Rattle.paper.specs.Strings.{Bytes, Below}
 use Rattle.paper.specs.Document01.{read_header}
 use Rattle.laws.proofs.Digits.{below_of}
 use Rattle.header.specs.declared.Place.{Place}
-use Rattle.header.specs.declared.Place.TheVariants.{At}
+use Rattle.std.specs.Prelude.{Option, Some}
 use Rattle.header.specs.Places.{Within, entry_at}
 use Rattle.pause_mark.proofs.FourStrings.{strings_read, not_read, other_count, Walked, begun, never_bad, goes_on, own_part, unknown, known}
 use Rattle.pause_mark.proofs.header_mark.Statement.{statement}
@@ -31,15 +31,15 @@ module _ (c : tie.After-read invariant-loop-i decreases-loop-i) where
   low = below_of 256 h (λ i p. omega (arith, c.shared_slice_known-1.given i))
 
 -- and its strings are counted
-module _ (c : tie.In-Strings invariant-loop-i decreases-loop-i) where
+module _ (c : tie.In-Ok invariant-loop-i decreases-loop-i) where
   abbrev read : tie.After-read invariant-loop-i decreases-loop-i
   read = c.before
 
   abbrev n : ℕ
-  n = c.in-Strings.n
+  n = c.in-Ok.n
 
   strings : (ss : List Bytes) × (read_header (h read) ≡ some ss) × (length ss ≡ n)
-  strings = strings_read (h read) n (sym c.in-Strings.is ∙ read.read.ensures)
+  strings = strings_read (h read) n (sym c.in-Ok.is ∙ read.read.ensures)
 
 -- at the loop
 module _ (l : tie.At-loop-i invariant-loop-i decreases-loop-i) where
@@ -47,31 +47,28 @@ module _ (l : tie.At-loop-i invariant-loop-i decreases-loop-i) where
   of_read = read l.before.before
 
 -- the fourth string's place
-module _ (c : tie.In-At-entry invariant-loop-i decreases-loop-i) where
+module _ (c : tie.In-Some-entry invariant-loop-i decreases-loop-i) where
   abbrev entry : tie.After-entry-2 invariant-loop-i decreases-loop-i
   entry = c.before
 
   abbrev at_end : tie.At-loop-i invariant-loop-i decreases-loop-i
   at_end = entry.before.before
 
-  abbrev from : ℕ
-  from = c.in-At-entry.start
+  abbrev place : Place
+  place = c.in-Some-entry.place
 
-  abbrev to : ℕ
-  to = c.in-At-entry.end
+  inside : Within (Some place) (h (of_read at_end))
+  inside = subst (λ (p : Option Place). Within p (h (of_read at_end))) c.in-Some-entry.is entry.entry-2.ensures.1
 
-  inside : Within (At from to) (h (of_read at_end))
-  inside = subst (λ (p : Place). Within p (h (of_read at_end))) c.in-At-entry.is entry.entry-2.ensures.1
-
-  is_entry : At from to ≡ entry_at (h (of_read at_end)) at_end.loop-i.at
-  is_entry = sym c.in-At-entry.is ∙ entry.entry-2.ensures.0
+  is_entry : Some place ≡ entry_at (h (of_read at_end)) at_end.loop-i.at
+  is_entry = sym c.in-Some-entry.is ∙ entry.entry-2.ensures.0
 
   last : at_end.loop-i.i ≡ 3
   last = omega arith
 
-  fourth : take (to - from) (drop from (h (of_read at_end))) ≡ get_or at_end.loop-i.invariant.1.strings 3 []
+  fourth : take (place.end - place.start) (drop place.start (h (of_read at_end))) ≡ get_or at_end.loop-i.invariant.1.strings 3 []
   fourth =
-      own_part (h (of_read at_end)) (low (of_read at_end)) at_end.loop-i.i at_end.loop-i.at (omega arith) at_end.loop-i.invariant.1 from to is_entry
+      own_part (h (of_read at_end)) (low (of_read at_end)) at_end.loop-i.i at_end.loop-i.at (omega arith) at_end.loop-i.invariant.1 place is_entry
       ∙ ap (λ (k : ℕ). get_or at_end.loop-i.invariant.1.strings k []) last
 
 returns-in_default : tie.Need-returns-in_default invariant-loop-i decreases-loop-i
@@ -92,11 +89,11 @@ returns-in_default-entry c =
 
 loop-i-preserved : tie.Need-loop-i-preserved invariant-loop-i decreases-loop-i
 loop-i-preserved c =
-    let place = c.in-At in
+    let place = c.in-Some in
     let p = c.before in
     let l = p.before.before in
     let r = of_read l in
-    (omega arith, goes_on (h r) (low r) l.loop-i.i l.loop-i.at (omega arith) l.loop-i.invariant.1 place.field-0 place.end (sym place.is ∙ p.entry.ensures.0))
+    (omega arith, goes_on (h r) (low r) l.loop-i.i l.loop-i.at (omega arith) l.loop-i.invariant.1 place.place (sym place.is ∙ p.entry.ensures.0))
 
 returns-in_default-entry-2 : tie.Need-returns-in_default-entry-2 invariant-loop-i decreases-loop-i
 returns-in_default-entry-2 c =
@@ -106,25 +103,25 @@ returns-in_default-entry-2 c =
     absurd (never_bad (h r) (low r) l.loop-i.i l.loop-i.at (omega arith) l.loop-i.invariant.1 (sym c.in_default-entry-2.is ∙ p.entry-2.ensures.0))
 
 slice_bounds-mark_of-count : tie.Need-slice_bounds-mark_of-count invariant-loop-i decreases-loop-i
-slice_bounds-mark_of-count c = (inside c).0
+slice_bounds-mark_of-count c = (inside c.before).0
 
 slice_bounds-mark_of-start : tie.Need-slice_bounds-mark_of-start invariant-loop-i decreases-loop-i
-slice_bounds-mark_of-start c = (inside c).0
+slice_bounds-mark_of-start c = (inside c.before).0
 
 slice_bounds-mark_of-end : tie.Need-slice_bounds-mark_of-end invariant-loop-i decreases-loop-i
-slice_bounds-mark_of-end c = (inside c).1
+slice_bounds-mark_of-end c = (inside c.before).1
 
 returns-then-mark-eq0 : tie.Need-returns-then-mark-eq0 invariant-loop-i decreases-loop-i
 returns-then-mark-eq0 c =
     let m = c.before in
-    let k = m.before.before in
+    let k = m.before.before.before in
     let w = (at_end k).loop-i.invariant.1 in
     unknown (h (of_read (at_end k))) _ w.strings w.reads w.four (fourth k) m.mark_of-mark.result m.mark_of-mark.ensures c.if-mark-eq0.true
 
 returns : tie.Need-returns invariant-loop-i decreases-loop-i
 returns c =
     let m = c.before in
-    let k = m.before.before in
+    let k = m.before.before.before in
     let w = (at_end k).loop-i.invariant.1 in
     known (h (of_read (at_end k))) _ w.strings w.reads w.four (fourth k) m.mark_of-mark.result m.mark_of-mark.ensures c.if-mark-eq0.false
 

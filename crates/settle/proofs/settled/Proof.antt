@@ -1,13 +1,14 @@
 -- `settle::settled` meets its contract.
 use mathlib.Core.Bool.{true, false}
+use Rattle.std.specs.Prelude.{Ok, Err}
 use mathlib.Core.Path.{◌≡◌, refl, ◌∙◌}
-use Prim.Native.Nat.{ℕ, ◌<◌}
+use Prim.Native.Nat.{ℕ}
 use native.Mathlib.Omega.{arith}
 use borrow.Author.Rules.{rules}
 use borrow.Author.Tests.{lt-ltb, le-ltb, eq-eqb, ne_eqb}
 use lib.Dec.{ltb}
 use Rattle.header.specs.Places.{read_as}
-use Rattle.header.specs.declared.Reading.TheVariants.{Bad, Strings}
+use Rattle.header.specs.declared.BadEntry.{BadEntry}
 use Rattle.paper.specs.Document01.{Read, as_strings, bad_entry, reading, longest_stretch}
 use Rattle.settle.specs.Settled.{refusal, unread, settled_common}
 use Rattle.settle.proofs.Settles.{common_then}
@@ -15,11 +16,11 @@ use Rattle.settle.proofs.settled.Statement.{statement}
 use Rattle.settle.proofs.settled.Tie as tie
 
 -- what the reader's two answers say of test 3
-not_read : (r : Read) (k : ℕ) → Bad k ≡ read_as r → refusal 3 k ≡ unread r
+not_read : (r : Read) (k : BadEntry) → Err k ≡ read_as r → refusal 3 k.0 ≡ unread r
 not_read (bad_entry j) k e = cc
 not_read (as_strings ss) k e = cc
 
-is_read : (r : Read) (n : ℕ) → Strings n ≡ read_as r → refusal 0 0 ≡ unread r
+is_read : (r : Read) (n : ℕ) → Ok n ≡ read_as r → refusal 0 0 ≡ unread r
 is_read (bad_entry j) n e = cc
 is_read (as_strings ss) n e = refl
 
@@ -37,16 +38,16 @@ returns-then-key-ne48 c =
     let a = c.args in
     common_then a.key.now a.header.now a.stretch.0 false (ltb longest_stretch a.stretch.0) (ne_eqb _ _ c.if-key-ne48.true) refl
 
-returns-in-Bad : tie.Need-returns-in-Bad
-returns-in-Bad c =
+returns-in-Err : tie.Need-returns-in-Err
+returns-in-Err c =
     let bad = c in
     let read = bad.before in
-    not_read (reading (start read).args.header.now) _ (rw bad.in-Bad.is at read.read.ensures) ∙ by_header read
+    not_read (reading (start read).args.header.now) _ (rw bad.in-Err.is at read.read.ensures) ∙ by_header read
 
-returns-in-Strings : tie.Need-returns-in-Strings
-returns-in-Strings c =
+returns-in-Ok : tie.Need-returns-in-Ok
+returns-in-Ok c =
     let read = c.before in
-    is_read (reading (start read).args.header.now) _ (rw c.in-Strings.is at read.read.ensures) ∙ by_header read
+    is_read (reading (start read).args.header.now) _ (rw c.in-Ok.is at read.read.ensures) ∙ by_header read
 
 pub settled_spec : {M : Type 1} → statement M
 settled_spec =
@@ -56,5 +57,5 @@ settled_spec =
     (λ c κs. search rules)
     (λ c. search rules)
     (λ c. search rules)
-    returns-in-Bad
-    returns-in-Strings)
+    returns-in-Err
+    returns-in-Ok)
