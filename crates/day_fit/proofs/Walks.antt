@@ -1,14 +1,14 @@
--- A walk over the lists that a writer is handed: from each place on, what the definition makes of the rest.
+-- A walk over the lists that a writer is handed: from each entry on, what the definition makes of the bytes that are left.
 use mathlib.Core.Bool.{Bool, true, false, ◌&&◌}
 use mathlib.Core.List.{List, [], ◌∷◌}
 use mathlib.Core.Option.{Option, none, some}
-use mathlib.Core.Path.{◌≡◌, refl, ap, ap₂, sym, ◌∙◌}
-use Prim.Native.Nat.{ℕ, ◌+◌, ◌-◌, ◌≤◌, ◌<◌}
+use mathlib.Core.Path.{◌≡◌, refl, ap, sym, ◌∙◌}
+use Prim.Native.Nat.{ℕ, ◌+◌, ◌≤◌, ◌<◌}
 use native.Mathlib.Numerals.{add-one}
 use native.Mathlib.Omega.{arith}
-use borrow.Author.Tests.{le-leb, lt-leb, lt-ltb, le-ltb}
-use lib.Dec.{leb, ltb}
-use lib.ListN.{length, get_or, take, drop, length-drop, drop_of_length-le}
+use borrow.Author.Tests.{le-leb, lt-leb, ne_eqb}
+use lib.Dec.{leb, eqb}
+use lib.ListN.{length, get_or, take, drop, drop_of_length-le}
 use lib.Seq.{drop-cons, drop-drop, get_or-drop}
 use Rattle.std.specs.Prelude.{if◌then◌else◌}
 use Rattle.paper.specs.Strings.{Bytes}
@@ -26,126 +26,94 @@ from_entry l i p = drop-cons l i 0 p ∙ ap (λ (k : ℕ). get_or l i 0 ∷ drop
 pub none_left : (l : List ℕ) (i : ℕ) → length l ≤ i → drop i l ≡ []
 none_left l i p = drop_of_length-le l {i = i} p
 
+present_front : {A : Type 0} (x : A) (o : Option (List A)) → present (in_front_of x o) ≡ present o
+present_front x none = refl
+present_front x (some xs) = refl
+
 -- ---- Headers
 
-module _ (ns : List ℕ) (X : Bytes) where
-  -- what is made of the lengths from i on and the bytes from a place on
-  abbrev pub headers_from : ℕ → ℕ → Option (List Bytes)
-  headers_from i at = headers_of (drop i ns) (drop at X)
+module _ (ns : List ℕ) (i : ℕ) (X : Bytes) where
+  abbrev n : ℕ
+  n = get_or ns i 0
 
-  module _ (i at : ℕ) (inside : i < length ns) where
-    abbrev n : ℕ
-    n = get_or ns i 0
+  abbrev others : Option (List Bytes)
+  others = headers_of (drop (i + 1) ns) (drop n X)
 
-    by_length : (a b : Bool) → leb n (length (drop at X)) ≡ a → header_fits (take n (drop at X)) ≡ b
-        → headers_from i at ≡ (if a && b then in_front_of (take n (drop at X)) (headers_of (drop (i + 1) ns) (drop n (drop at X))) else none)
-    unfolding headers_of
-    by_length a b p q =
-        ap (λ (l : List ℕ). headers_of l (drop at X)) (from_entry ns i inside)
-        ∙ (λ j. if p j && q j then in_front_of (take n (drop at X)) (headers_of (drop (i + 1) ns) (drop n (drop at X))) else none)
-
-    pub headers_by : (a b : Bool) → leb n (length (drop at X)) ≡ a → header_fits (take n (drop at X)) ≡ b
-        → headers_from i at ≡ (if a && b then in_front_of (take n (drop at X)) (headers_from (i + 1) (at + n)) else none)
-    headers_by a b p q =
-        by_length a b p q
-        ∙ ap (λ (Y : Bytes). if a && b then in_front_of (take n (drop at X)) (headers_of (drop (i + 1) ns) Y) else none) (drop-drop n at X)
-
-    pub header_turn : at + n ≤ length X → header_fits (take n (drop at X)) ≡ true → headers_from i at ≡ in_front_of (take n (drop at X)) (headers_from (i + 1) (at + n))
-    header_turn p q =
-        headers_by true true (le-leb n (length (drop at X)) (omega (arith, length-drop at X))) q
-
-    pub header_past : length X - at < n → headers_from i at ≡ none
-    header_past p = by_length false (header_fits (take n (drop at X))) (lt-leb n (length (drop at X)) (omega (arith, length-drop at X))) refl
-
-    pub header_unfit : header_fits (take n (drop at X)) ≡ false → headers_from i at ≡ none
-    header_unfit q =
-        by_length (leb n (length (drop at X))) false refl q
-        ∙ ap (λ (b : Bool). if b then in_front_of (take n (drop at X)) (headers_of (drop (i + 1) ns) (drop n (drop at X))) else none) (and_none (leb n (length (drop at X))))
-
-  -- after the last length
-  pub headers_end : (i at : ℕ) → length ns ≤ i → at ≡ length X → headers_from i at ≡ some []
+  pub headers_by : (a b : Bool) → i < length ns → leb n (length X) ≡ a → header_fits (take n X) ≡ b
+      → headers_of (drop i ns) X ≡ (if a && b then in_front_of (take n X) others else none)
   unfolding headers_of
-  headers_end i at p e = ap₂ headers_of (none_left ns i p) (none_left X at (omega arith))
+  headers_by a b inside p q = ap (λ (l : List ℕ). headers_of l X) (from_entry ns i inside) ∙ (λ j. if p j && q j then in_front_of (take n X) others else none)
 
-  pub headers_over : (i at : ℕ) → length ns ≤ i → at < length X → headers_from i at ≡ none
+  pub header_turn : i < length ns → n ≤ length X → header_fits (take n X) ≡ true → present (headers_of (drop i ns) X) ≡ present others
+  header_turn inside p q = ap present (headers_by true true inside (le-leb n (length X) p) q) ∙ present_front (take n X) others
+
+  pub header_past : i < length ns → length X < n → present (headers_of (drop i ns) X) ≡ false
+  header_past inside p = ap present (headers_by false (header_fits (take n X)) inside (lt-leb n (length X) p) refl)
+
+  pub header_unfit : i < length ns → header_fits (take n X) ≡ false → present (headers_of (drop i ns) X) ≡ false
+  header_unfit inside q =
+      ap present (headers_by (leb n (length X)) false inside refl q)
+      ∙ ap (λ (b : Bool). present (if b then in_front_of (take n X) others else none)) (and_none (leb n (length X)))
+
+  -- after the last length no byte is left
+  pub headers_end : length ns ≤ i → present (headers_of (drop i ns) X) ≡ eqb (length X) 0
   unfolding headers_of
-  headers_over i at p e = ap₂ headers_of (none_left ns i p) (from_entry X at e)
-
-pub present_front : (s : Bytes) (o : Option (List Bytes)) → present (in_front_of s o) ≡ present o
-present_front s none = refl
-present_front s (some ss) = refl
+  headers_end p = ap (λ (l : List ℕ). present (headers_of l X)) (none_left ns i p) ∙ go X
+    where
+      go : (Y : Bytes) → present (headers_of [] Y) ≡ eqb (length Y) 0
+      go [] = refl
+      go (y ∷ Y) = sym (ne_eqb (length (y ∷ Y)) 0 (λ e. absurd (omega (arith, e))))
 
 -- ---- Records
 
-module _ (headers : ℕ) (hs ts ns : List ℕ) (X : Bytes) where
-  abbrev pub records_from : ℕ → ℕ → Option (List Record)
-  records_from i at = records_of headers (drop i hs) (drop i ts) (drop i ns) (drop at X)
+module _ (headers : ℕ) (hs ts ns : List ℕ) (i : ℕ) (X : Bytes) where
+  abbrev size : ℕ
+  size = get_or ns i 0
 
-  abbrev pub record_at : ℕ → ℕ → Record
-  record_at i at = record { header = get_or hs i 0; stretch = get_or ts i 0; sealed = take (get_or ns i 0) (drop at X) }
+  abbrev pub record_at : Record
+  record_at = record { header = get_or hs i 0; stretch = get_or ts i 0; sealed = take size X }
 
-  module _ (i at : ℕ) (inside : i < length ns) where
-    abbrev size : ℕ
-    size = get_or ns i 0
+  abbrev these : Option (List Record)
+  these = records_of headers (drop i hs) (drop i ts) (drop i ns) X
 
-    abbrev first_record : Record
-    first_record = record { header = get_or (drop i hs) 0 0; stretch = get_or (drop i ts) 0 0; sealed = take size (drop at X) }
+  abbrev rest : Option (List Record)
+  rest = records_of headers (drop (i + 1) hs) (drop (i + 1) ts) (drop (i + 1) ns) (drop size X)
 
-    first_is : first_record ≡ record_at i at
-    first_is =
-        let here : i + 0 ≡ i = omega arith in
-        λ j. record {
-          header = (get_or-drop i hs 0 0 ∙ ap (λ (k : ℕ). get_or hs k 0) here) j;
-          stretch = (get_or-drop i ts 0 0 ∙ ap (λ (k : ℕ). get_or ts k 0) here) j;
-          sealed = take size (drop at X);
-        }
+  abbrev first_record : Record
+  first_record = record { header = get_or (drop i hs) 0 0; stretch = get_or (drop i ts) 0 0; sealed = take size X }
 
-    pub records_by : (a b : Bool) → leb size (length (drop at X)) ≡ a → record_fits headers (record_at i at) ≡ b
-        → records_from i at ≡ (if a && b then in_front_of (record_at i at) (records_from (i + 1) (at + size)) else none)
-    unfolding records_of
-    records_by a b p q =
-        ap (λ (l : List ℕ). records_of headers (drop i hs) (drop i ts) l (drop at X)) (from_entry ns i inside)
-        ∙ (λ j. if p j && record_fits headers (first_is j) then in_front_of (first_is j) (records_of headers (drop-drop 1 i hs j) (drop-drop 1 i ts j) (drop (i + 1) ns) (drop-drop size at X j)) else none)
-        ∙ ap (λ (c : Bool). if a && c then in_front_of (record_at i at) (records_from (i + 1) (at + size)) else none) q
+  first_is : first_record ≡ record_at
+  first_is =
+      let here : i + 0 ≡ i = omega arith in
+      λ j. record {
+        header = (get_or-drop i hs 0 0 ∙ ap (λ (k : ℕ). get_or hs k 0) here) j;
+        stretch = (get_or-drop i ts 0 0 ∙ ap (λ (k : ℕ). get_or ts k 0) here) j;
+        sealed = take size X;
+      }
 
-    pub record_turn : at + size ≤ length X → get_or hs i 0 ≤ 65535 → get_or hs i 0 < headers → get_or ts i 0 ≤ 64
-        → records_from i at ≡ in_front_of (record_at i at) (records_from (i + 1) (at + size))
-    record_turn p q r s =
-        records_by true true (le-leb size (length (drop at X)) (omega (arith, length-drop at X)))
-        (λ j. le-leb (get_or hs i 0) 65535 q j && lt-ltb (get_or hs i 0) headers r j && le-leb (get_or ts i 0) 64 s j)
-
-    pub record_past : length X - at < size → records_from i at ≡ none
-    record_past p = records_by false (record_fits headers (record_at i at)) (lt-leb size (length (drop at X)) (omega (arith, length-drop at X))) refl
-
-    unfit : record_fits headers (record_at i at) ≡ false → records_from i at ≡ none
-    unfit q =
-        records_by (leb size (length (drop at X))) false refl q
-        ∙ ap (λ (b : Bool). if b then in_front_of (record_at i at) (records_from (i + 1) (at + size)) else none) (and_none (leb size (length (drop at X))))
-
-    pub record_numbered : 65535 < get_or hs i 0 → records_from i at ≡ none
-    record_numbered p =
-        unfit (ap (λ (b : Bool). b && ltb (get_or hs i 0) headers && leb (get_or ts i 0) 64) (lt-leb (get_or hs i 0) 65535 p))
-
-    pub record_unnamed : headers ≤ get_or hs i 0 → records_from i at ≡ none
-    record_unnamed p =
-        unfit
-        (ap (λ (b : Bool). leb (get_or hs i 0) 65535 && b && leb (get_or ts i 0) 64) (le-ltb (get_or hs i 0) headers p)
-        ∙ ap (λ (b : Bool). b && leb (get_or ts i 0) 64) (and_none (leb (get_or hs i 0) 65535)))
-
-    pub record_stretched : 64 < get_or ts i 0 → records_from i at ≡ none
-    record_stretched p =
-        unfit
-        (ap (λ (b : Bool). leb (get_or hs i 0) 65535 && ltb (get_or hs i 0) headers && b) (lt-leb (get_or ts i 0) 64 p)
-        ∙ and_none (leb (get_or hs i 0) 65535 && ltb (get_or hs i 0) headers))
-
-  pub records_end : (i at : ℕ) → length ns ≤ i → at ≡ length X → records_from i at ≡ some []
+  pub records_by : (a b : Bool) → i < length ns → leb size (length X) ≡ a → record_fits headers record_at ≡ b
+      → these ≡ (if a && b then in_front_of record_at rest else none)
   unfolding records_of
-  records_end i at p e = ap₂ (records_of headers (drop i hs) (drop i ts)) (none_left ns i p) (none_left X at (omega arith))
+  records_by a b inside p q =
+      ap (λ (l : List ℕ). records_of headers (drop i hs) (drop i ts) l X) (from_entry ns i inside)
+      ∙ (λ j. if p j && record_fits headers (first_is j) then in_front_of (first_is j) (records_of headers (drop-drop 1 i hs j) (drop-drop 1 i ts j) (drop (i + 1) ns) (drop size X)) else none)
+      ∙ ap (λ (c : Bool). if a && c then in_front_of record_at rest else none) q
 
-  pub records_over : (i at : ℕ) → length ns ≤ i → at < length X → records_from i at ≡ none
+  pub record_turn : i < length ns → size ≤ length X → record_fits headers record_at ≡ true → present these ≡ present rest
+  record_turn inside p q = ap present (records_by true true inside (le-leb size (length X) p) q) ∙ present_front record_at rest
+
+  pub record_past : i < length ns → length X < size → present these ≡ false
+  record_past inside p = ap present (records_by false (record_fits headers record_at) inside (lt-leb size (length X) p) refl)
+
+  pub record_unfit : i < length ns → record_fits headers record_at ≡ false → present these ≡ false
+  record_unfit inside q =
+      ap present (records_by (leb size (length X)) false inside refl q)
+      ∙ ap (λ (b : Bool). present (if b then in_front_of record_at rest else none)) (and_none (leb size (length X)))
+
+  pub records_end : length ns ≤ i → present these ≡ eqb (length X) 0
   unfolding records_of
-  records_over i at p e = ap₂ (records_of headers (drop i hs) (drop i ts)) (none_left ns i p) (from_entry X at e)
-
-pub record_front : (r : Record) (o : Option (List Record)) → present (in_front_of r o) ≡ present o
-record_front r none = refl
-record_front r (some rs) = refl
+  records_end p = ap (λ (l : List ℕ). present (records_of headers (drop i hs) (drop i ts) l X)) (none_left ns i p) ∙ go X
+    where
+      go : (Y : Bytes) → present (records_of headers (drop i hs) (drop i ts) [] Y) ≡ eqb (length Y) 0
+      go [] = refl
+      go (y ∷ Y) = sym (ne_eqb (length (y ∷ Y)) 0 (λ e. absurd (omega (arith, e))))

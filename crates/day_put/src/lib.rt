@@ -13,13 +13,11 @@ pub fn put_headers(lengths: &[u64], headers: &[u8], out: &mut [u8], start: usize
     ensures { (result ≡ start + length (headers_written (headers_of lengths.now headers.now))) × (out.new ≡ placed start (headers_written (headers_of lengths.now headers.now)) out.old) }
 {
     let mut at = start;
-    let mut from: usize = 0;
-    let mut i: usize = 0;
-    while i < lengths.len() {
-        let to = from + lengths[i] as usize;
-        at = builder::put(out, at, &headers[from..to]);
-        from = to;
-        i += 1;
+    let mut rest = headers;
+    for n in lengths {
+        let (header, more) = rest.split_at(*n as usize);
+        at = builder::put(out, at, header);
+        rest = more;
     }
     at
 }
@@ -35,7 +33,7 @@ pub fn put_record(out: &mut [u8], at: usize, number: usize, stretch: usize, seal
     slices::copy(out, at + 7, sealed);
 }
 
-// The records put at a place. The place after them is returned.
+// The records put at a place. The place after them is returned. The lists come as such from the C interface.
 pub fn put_records(
     headers: usize,
     numbers: &[u64],
@@ -49,21 +47,12 @@ pub fn put_records(
     ensures { (result ≡ start + length (records_written (records_of headers numbers.now stretches.now sizes.now sealed.now))) × (out.new ≡ placed start (records_written (records_of headers numbers.now stretches.now sizes.now sealed.now)) out.old) }
 {
     let mut at = start;
-    let mut from: usize = 0;
-    let mut i: usize = 0;
-    while i < sizes.len() {
-        let n = sizes[i] as usize;
-        let to = from + n;
-        put_record(
-            out,
-            at,
-            numbers[i] as usize,
-            stretches[i] as usize,
-            &sealed[from..to],
-        );
-        at = at + 7 + n;
-        from = to;
-        i += 1;
+    let mut rest = sealed;
+    for (i, n) in sizes.iter().enumerate() {
+        let (part, more) = rest.split_at(*n as usize);
+        put_record(out, at, numbers[i] as usize, stretches[i] as usize, part);
+        at += 7 + part.len();
+        rest = more;
     }
     at
 }
@@ -74,10 +63,8 @@ pub fn put_places(sizes: &[u64], first: usize, out: &mut [u8], start: usize)
     ensures { out.new ≡ placed start (write_places (places_by first sizes.now)) out.old }
 {
     let mut place = first;
-    let mut i: usize = 0;
-    while i < sizes.len() {
+    for (i, n) in sizes.iter().enumerate() {
         numbers::put::<4>(out, start + 4 * i, place);
-        place = place + 7 + sizes[i] as usize;
-        i += 1;
+        place += 7 + *n as usize;
     }
 }
