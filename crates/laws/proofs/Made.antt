@@ -1,27 +1,64 @@
--- What `array::from_fn` made, where each call keeps what is known of the closure and gives f of its index.
-use Rattle.std.proofs.Common.{◌≡◌, ℕ, zero, suc, ◌+◌, ◌<◌, List, get_or, ap, sym, ◌∙◌, arith}
+-- Arrays that are made entry by entry: by `array::from_fn`, and by a loop.
+use Rattle.std.proofs.Common.{◌≡◌, ℕ, zero, suc, ◌+◌, ◌<◌, ◌≤◌, List, map, length, get_or, set, length-set, ap, sym, ◌∙◌, arith}
+use Rattle.std.specs.List.{range_with_len}
+use Rattle.std.proofs.lemmas.List.{length-map}
+use Rattle.std.proofs.lemmas.List.Edits.{fill_by_more}
+use Rattle.std.proofs.lemmas.List.FromFn.{fill_by_all}
+use lib.ListN.{get_or-map}
+use lib.Seq.{ext_get_or}
 use denote.Param.Members.{Mut, Called}
 use Rattle.std.specs.Array.{IsFromFnResult, IsFromFnResultFrom}
 use Rattle.paper.specs.Strings.{tab}
-use Rattle.laws.proofs.Tables.{tab_entries}
+use Rattle.laws.proofs.Tables.{get_or_tab, length_tab, tab_entries}
 use Rattle.laws.proofs.WordBits.{tab_same}
 
-module _ {F B : Type 0} {g : Mut F (ℕ × Unit {0}) B} (K : F → Type 0) (f : ℕ → B)
-    (call : (s t : F) (i : ℕ) (y : B) → K s → Called g s (i, tt) y t → K t × (y ≡ f i)) where
-  made_from : (s : F) (ys : List B) (i n k j : ℕ) (d : B) → K s → IsFromFnResultFrom g s ys i n → k < n → i + k ≡ j → get_or ys j d ≡ f j
-  made_from s ys i zero k j d known m h e = absurd (omega arith)
-  made_from s ys i (suc n) zero j d known m h e =
-      let here : i ≡ j = omega arith in
-      ap (λ (v : ℕ). get_or ys v d) (sym here) ∙ m.2.1 d ∙ (call s m.0 i m.1 known m.3).1 ∙ ap f here
-  made_from s ys i (suc n) (suc k) j d known m h e =
-      made_from m.0 ys (i + 1) n k j d (call s m.0 i m.1 known m.3).0 m.4 (omega arith) (omega arith)
+-- ---- `from_fn`, where each call keeps what is known of the closure and gives f of its index
 
-  pub made : {s : F} {ys : List B} {n : ℕ} → K s → IsFromFnResult g s ys n → (k : ℕ) (d : B) → k < n → get_or ys k d ≡ f k
-  made {s} {ys} {n} known r k d h = made_from s ys 0 n k k d known r.each h (omega arith)
+module _ {F B : Type 0} {g : Mut F (ℕ × Unit {0}) B} {n : ℕ} (K : F → Type 0) (f : ℕ → B)
+    (call : (s t : F) (i : ℕ) (y : B) → i < n → K s → Called g s (i, tt) y t → K t × (y ≡ f i)) where
+  made_from : (s : F) (ys : List B) (i m k j : ℕ) (d : B) → i + m ≤ n → K s → IsFromFnResultFrom g s ys i m → k < m → i + k ≡ j → get_or ys j d ≡ f j
+  made_from s ys i zero k j d le known r h e = absurd (omega arith)
+  made_from s ys i (suc m) zero j d le known r h e =
+      let here : i ≡ j = omega arith in
+      ap (λ (v : ℕ). get_or ys v d) (sym here) ∙ r.2.1 d ∙ (call s r.0 i r.1 (omega arith) known r.3).1 ∙ ap f here
+  made_from s ys i (suc m) (suc k) j d le known r h e =
+      made_from r.0 ys (i + 1) m k j d (omega arith) (call s r.0 i r.1 (omega arith) known r.3).0 r.4 (omega arith) (omega arith)
+
+  pub made : {s : F} {ys : List B} → K s → IsFromFnResult g s ys n → (k : ℕ) (d : B) → k < n → get_or ys k d ≡ f k
+  made {s} {ys} known r k d h = made_from s ys 0 n k k d (omega arith) known r.each h (omega arith)
+
+  -- an array of anything is f mapped over the indices
+  pub made_map : {s : F} {ys : List B} → K s → IsFromFnResult g s ys n → ys ≡ map f (tab n (λ k. k))
+  made_map {s} {ys} known r =
+      let long : length (map f (tab n (λ k. k))) ≡ n = length-map (tab n (λ k. k)) f ∙ length_tab n (λ k. k) in
+      ext_get_or (f 0) ys (map f (tab n (λ k. k))) (r.long ∙ sym long)
+      (λ k h.
+      let below : k < n = omega (arith, r.long) in
+      made known r k (f 0) below ∙ sym (get_or-map f (tab n (λ k. k)) k 0 ∙ ap f (get_or_tab n k (λ k. k) below)))
 
 -- an array of numbers is the table of them
-module _ {F : Type 0} {g : Mut F (ℕ × Unit {0}) ℕ} (K : F → Type 0) (f : ℕ → ℕ)
-    (call : (s t : F) (i : ℕ) (y : ℕ) → K s → Called g s (i, tt) y t → K t × (y ≡ f i)) where
-  pub made_tab : {s : F} {ys : List ℕ} {n : ℕ} → K s → IsFromFnResult g s ys n → ys ≡ tab n f
-  made_tab {s} {ys} {n} known r =
+module _ {F : Type 0} {g : Mut F (ℕ × Unit {0}) ℕ} {n : ℕ} (K : F → Type 0) (f : ℕ → ℕ)
+    (call : (s t : F) (i : ℕ) (y : ℕ) → i < n → K s → Called g s (i, tt) y t → K t × (y ≡ f i)) where
+  pub made_tab : {s : F} {ys : List ℕ} → K s → IsFromFnResult g s ys n → ys ≡ tab n f
+  made_tab {s} {ys} known r =
       tab_entries n ys r.long ∙ tab_same 0 n (λ k. get_or ys k 0) f (λ k h. made K f call known r k 0 (omega arith))
+
+-- ---- a loop that writes f k to each place k
+
+-- the first i of n entries are f's
+pub record Filled {X : Type 0} (n : ℕ) (d : X) (f : ℕ → X) (r : List X) (i : ℕ) : Type 0 where
+  pub long : length r ≡ n
+  pub there : (k : ℕ) → k < i → get_or r k d ≡ f k
+
+module _ {X : Type 0} {n : ℕ} {d : X} {f : ℕ → X} {r : List X} where
+  pub filled_none : length r ≡ n → Filled n d f r 0
+  filled_none long = record { long = long; there = λ k h. absurd (omega arith) }
+
+  pub filled_more : {i : ℕ} (x : X) → Filled n d f r i → i < n → x ≡ f i → Filled n d f (set r i x) (i + 1)
+  filled_more {i} x p h e = record {
+    long = length-set r i x ∙ p.long;
+    there = λ k b. ap (λ (v : X). get_or (set r i v) k d) e ∙ fill_by_more f r i d (omega (arith, p.long)) p.there k b;
+  }
+
+  pub filled_all : {i : ℕ} → Filled n d f r i → n ≤ i → r ≡ map f (range_with_len 0 n)
+  filled_all {i} p le = fill_by_all f r n d p.long (λ k h. p.there k (omega arith))

@@ -7,52 +7,45 @@ ghost use Rattle.laws.proofs.WordBits.{word_of};
 ghost use Rattle.laws.proofs.Exchange.{lower, upper};
 ghost use Rattle.levels.specs.Levels.{near, far, turned};
 
-#[derive(Clone, Copy)]
-struct Pair {
-    a: u64,
-    b: u64,
-}
+use std::array::from_fn;
 
 // The bits of a where m has a 1 change places with those of b that stand n above them.
-fn exchanged(a: u64, b: u64, n: u32, m: u64) -> Pair
+fn exchanged(a: u64, b: u64, n: u32, m: u64) -> (u64, u64)
     requires { n < 64 }
-    ensures { (result.a ≡ word_of 64 (lower n m (bit a) (bit b))) × (result.b ≡ word_of 64 (upper n m (bit a) (bit b))) }
+    ensures { (result.0 ≡ word_of 64 (lower n m (bit a) (bit b))) × (result.1 ≡ word_of 64 (upper n m (bit a) (bit b))) }
 {
     let t = ((b >> n) ^ a) & m;
-    Pair {
-        a: a ^ t,
-        b: b ^ (t << n),
-    }
+    (a ^ t, b ^ (t << n))
 }
 
 // Four words, of which those that stand 2 apart exchange bits, and then neighbours.
 fn near_four(x: [u64; 4]) -> [u64; 4]
     ensures { result ≡ near 4 x }
 {
-    let a = exchanged(x[2], x[0], 16, 0x0000_ffff_0000_ffff);
-    let b = exchanged(x[3], x[1], 16, 0x0000_ffff_0000_ffff);
-    let c = exchanged(b.b, a.b, 8, 0x00ff_00ff_00ff_00ff);
-    let d = exchanged(b.a, a.a, 8, 0x00ff_00ff_00ff_00ff);
-    [c.b, c.a, d.b, d.a]
+    let (a2, a0) = exchanged(x[2], x[0], 16, 0x0000_ffff_0000_ffff);
+    let (a3, a1) = exchanged(x[3], x[1], 16, 0x0000_ffff_0000_ffff);
+    let (b1, b0) = exchanged(a1, a0, 8, 0x00ff_00ff_00ff_00ff);
+    let (b3, b2) = exchanged(a3, a2, 8, 0x00ff_00ff_00ff_00ff);
+    [b0, b1, b2, b3]
 }
 
 // Eight words likewise: 4 apart, 2 apart, neighbours.
 fn far_eight(x: [u64; 8]) -> [u64; 8]
     ensures { result ≡ far 8 1 x }
 {
-    let a = exchanged(x[4], x[0], 4, 0x0f0f_0f0f_0f0f_0f0f);
-    let b = exchanged(x[5], x[1], 4, 0x0f0f_0f0f_0f0f_0f0f);
-    let c = exchanged(x[6], x[2], 4, 0x0f0f_0f0f_0f0f_0f0f);
-    let d = exchanged(x[7], x[3], 4, 0x0f0f_0f0f_0f0f_0f0f);
-    let e = exchanged(c.b, a.b, 2, 0x3333_3333_3333_3333);
-    let f = exchanged(d.b, b.b, 2, 0x3333_3333_3333_3333);
-    let g = exchanged(c.a, a.a, 2, 0x3333_3333_3333_3333);
-    let h = exchanged(d.a, b.a, 2, 0x3333_3333_3333_3333);
-    let p = exchanged(f.b, e.b, 1, 0x5555_5555_5555_5555);
-    let q = exchanged(f.a, e.a, 1, 0x5555_5555_5555_5555);
-    let r = exchanged(h.b, g.b, 1, 0x5555_5555_5555_5555);
-    let s = exchanged(h.a, g.a, 1, 0x5555_5555_5555_5555);
-    [p.b, p.a, q.b, q.a, r.b, r.a, s.b, s.a]
+    let (a4, a0) = exchanged(x[4], x[0], 4, 0x0f0f_0f0f_0f0f_0f0f);
+    let (a5, a1) = exchanged(x[5], x[1], 4, 0x0f0f_0f0f_0f0f_0f0f);
+    let (a6, a2) = exchanged(x[6], x[2], 4, 0x0f0f_0f0f_0f0f_0f0f);
+    let (a7, a3) = exchanged(x[7], x[3], 4, 0x0f0f_0f0f_0f0f_0f0f);
+    let (b2, b0) = exchanged(a2, a0, 2, 0x3333_3333_3333_3333);
+    let (b3, b1) = exchanged(a3, a1, 2, 0x3333_3333_3333_3333);
+    let (b6, b4) = exchanged(a6, a4, 2, 0x3333_3333_3333_3333);
+    let (b7, b5) = exchanged(a7, a5, 2, 0x3333_3333_3333_3333);
+    let (c1, c0) = exchanged(b1, b0, 1, 0x5555_5555_5555_5555);
+    let (c3, c2) = exchanged(b3, b2, 1, 0x5555_5555_5555_5555);
+    let (c5, c4) = exchanged(b5, b4, 1, 0x5555_5555_5555_5555);
+    let (c7, c6) = exchanged(b7, b6, 1, 0x5555_5555_5555_5555);
+    [c0, c1, c2, c3, c4, c5, c6, c7]
 }
 
 // The levels between words that stand 2 and 1 apart, four neighbours in a turn.
@@ -60,15 +53,12 @@ fn near(w: &mut [u64])
     requires { length w.old ≡ 32 }
     ensures { w.new ≡ near 32 w.old }
 {
-    let mut i: usize = 0;
-    while i < w.len() / 4 {
-        let x = [w[4 * i], w[4 * i + 1], w[4 * i + 2], w[4 * i + 3]];
-        let y = near_four(x);
-        w[4 * i] = y[0];
-        w[4 * i + 1] = y[1];
-        w[4 * i + 2] = y[2];
-        w[4 * i + 3] = y[3];
-        i += 1;
+    for i in 0..w.len() / 4 {
+        let y = near_four(from_fn(|p| w[4 * i + p]));
+        // (`copy_from_slice` is slower: it goes by way of the stack)
+        for p in 0..4 {
+            w[4 * i + p] = y[p];
+        }
     }
 }
 
@@ -77,28 +67,11 @@ fn far(w: &mut [u64])
     requires { length w.old ≡ 32 }
     ensures { w.new ≡ far 32 4 w.old }
 {
-    let mut i: usize = 0;
-    while i < w.len() / 8 {
-        let x = [
-            w[i],
-            w[i + 4],
-            w[i + 8],
-            w[i + 12],
-            w[i + 16],
-            w[i + 20],
-            w[i + 24],
-            w[i + 28],
-        ];
-        let y = far_eight(x);
-        w[i] = y[0];
-        w[i + 4] = y[1];
-        w[i + 8] = y[2];
-        w[i + 12] = y[3];
-        w[i + 16] = y[4];
-        w[i + 20] = y[5];
-        w[i + 24] = y[6];
-        w[i + 28] = y[7];
-        i += 1;
+    for i in 0..w.len() / 8 {
+        let y = far_eight(from_fn(|p| w[i + 4 * p]));
+        for p in 0..8 {
+            w[i + 4 * p] = y[p];
+        }
     }
 }
 

@@ -1,17 +1,14 @@
--- The loops that fill the words of sixteen blocks and the blocks of the words: what a turn does.
+-- The loop that fills the words of sixteen blocks: what a turn does.
 use mathlib.Core.List.{List}
-use mathlib.Core.Path.{◌≡◌, ap, ap₂, sym, subst, ◌∙◌}
+use mathlib.Core.Path.{◌≡◌, ap, sym, subst, ◌∙◌}
 use Prim.Native.Nat.{ℕ, ◌+◌, ◌*◌, ◌/◌, ◌%◌, ◌<◌}
-use native.Mathlib.Nat.{zero-add}
-use native.Mathlib.Numerals.{add-one}
 use native.Mathlib.Omega.{arith}
 use lib.Dec.{lit<}
-use lib.ListN.{length, get_or, set, get_or-map}
-use lib.Seq.{paste, paste-suc}
+use lib.ListN.{length, get_or, set}
 use Rattle.laws.proofs.Fronts.{Front, front_more}
 use Rattle.laws.proofs.Tables.{get_or_tab, length_tab}
 use Rattle.laws.proofs.WordBits.{word_of}
-use Rattle.planes.specs.Planes.{up_to, group_bit, group_words, group_block, group_of}
+use Rattle.planes.specs.Planes.{group_bit, group_words}
 
 -- ---- the words
 
@@ -56,20 +53,3 @@ module _ (g : List (List ℕ)) where
       let three = front_more x (counted (4 * i + 2) two (omega arith)) (omega arith) (is_x ∙ at_x) in
       let four = front_more y (counted (4 * i + 3) three (omega arith)) (omega arith) (is_y ∙ at_y) in
       counted (4 * (i + 1)) four (omega arith)
-
--- ---- the blocks
-
-module _ (w : List ℕ) where
-  block_at : (b : ℕ) → b < 16 → get_or (group_of w) b (group_block w 0) ≡ group_block w b
-  unfolding group_of
-  block_at b h = get_or-map (group_block w) (up_to 16) b 0 ∙ ap (group_block w) (get_or_tab 16 b (λ b. b) h)
-
-  -- one block more, over the list s
-  pub one_block : (s r : List (List ℕ)) (b : ℕ) (x : List ℕ) → length s ≡ 16 → b < 16
-      → r ≡ paste s 0 (group_of w) b → x ≡ group_block w b → set r b x ≡ paste s 0 (group_of w) (b + 1)
-  unfolding group_of
-  one_block s r b x long h is-r is_x =
-      ap₂ (λ (l : List (List ℕ)) (y : List ℕ). set l b y) is-r (is_x ∙ sym (block_at b h))
-      ∙ ap (λ (j : ℕ). set (paste s 0 (group_of w) b) j (get_or (group_of w) b (group_block w 0))) (sym (zero-add b))
-      ∙ paste-suc s 0 (group_of w) b (group_block w 0) (omega arith) h
-      ∙ ap (paste s 0 (group_of w)) (sym (add-one b))

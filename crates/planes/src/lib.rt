@@ -10,37 +10,31 @@ ghost use Rattle.columns.specs.Columns.{block_of};
 ghost use Rattle.planes.specs.Planes.{plane_blocks, joined_bit, group_words, columns_in, group_of, spread_bit, copied, up_to};
 
 use columns::Columns;
+use std::array::from_fn;
 
 // Sixteen blocks on planes: word 4 p + j has bit p of each byte of row 3 - j.
 pub type Planes = [u64; 32];
-
-fn wide(x: u32) -> u64
-    ensures { (result ≡ x) × (result < 4294967296) }
-{
-    x as u64
-}
 
 // The column x, and above it the column y.
 fn joined(x: u32, y: u32) -> u64
     ensures { result ≡ word_of 64 (joined_bit (bit x) (bit y)) }
 {
-    wide(x) ^ (wide(y) << 32)
+    u64::from(x) ^ (u64::from(y) << 32)
 }
 
-// The words of sixteen blocks: word 4 i + 2 c + e has column c of block 2 i + e, and above it column c + 2.
+// The words of sixteen blocks: word 4 i + 2 c + e has column c of block 2 i + e, and above it column c + 2. `array::from_fn` by that formula is
+// slower: the compiler does not unroll its 32 turns.
 fn words(g: &[Columns; 16]) -> Planes
     ensures { result ≡ group_words g.now }
 {
-    let mut r = [0u64; 32];
-    let mut i: usize = 0;
-    while i < 8 {
+    let mut r = [0; 32];
+    for i in 0..8 {
         let x = g[2 * i];
         let y = g[2 * i + 1];
         r[4 * i] = joined(x[0], x[2]);
         r[4 * i + 1] = joined(y[0], y[2]);
         r[4 * i + 2] = joined(x[1], x[3]);
         r[4 * i + 3] = joined(y[1], y[3]);
-        i += 1;
     }
     r
 }
@@ -50,24 +44,21 @@ fn columns_in(x: u64, y: u64) -> Columns
     ensures { result ≡ columns_in x y }
 {
     [
-        (x % 4294967296) as u32,
-        (y % 4294967296) as u32,
-        (x / 4294967296 % 4294967296) as u32,
-        (y / 4294967296 % 4294967296) as u32,
+        (x & 0xffff_ffff) as u32,
+        (y & 0xffff_ffff) as u32,
+        (x >> 32) as u32,
+        (y >> 32) as u32,
     ]
 }
 
-// The sixteen blocks of their words.
+// The sixteen blocks of their words. (By `array::from_fn` the closure would need its contract written out, since it makes an array.)
 fn blocks(w: Planes) -> [Columns; 16]
     ensures { result ≡ group_of w }
 {
-    let mut r = [[0u32; 4]; 16];
-    let mut b: usize = 0;
-    while b < 16 {
+    let mut r = [[0; 4]; 16];
+    for b in 0..16 {
         let at = b / 2 * 4 + b % 2;
-        let c = columns_in(w[at], w[at + 2]);
-        r[b] = c;
-        b += 1;
+        r[b] = columns_in(w[at], w[at + 2]);
     }
     r
 }
@@ -91,7 +82,7 @@ pub fn to_blocks(q: Planes) -> [Columns; 16]
 }
 
 // Bit n of x and of y and the bits that stand 32 above them, each sixteen times.
-fn spread(x: u64, y: u64, n: u32) -> u64
+fn spread(x: u64, y: u64, n: usize) -> u64
     requires { n < 32 }
     ensures { result ≡ word_of 64 (spread_bit (bit x) (bit y) n) }
 {
@@ -106,14 +97,5 @@ pub fn copies(s: Columns) -> Planes
 {
     let x = joined(s[0], s[2]);
     let y = joined(s[1], s[3]);
-    let mut r = [0u64; 32];
-    let mut n: u32 = 0;
-    let mut i: usize = 0;
-    while i < 32 {
-        let w = spread(x, y, 8 * (n % 4) + n / 4);
-        r[i] = w;
-        n += 1;
-        i += 1;
-    }
-    r
+    from_fn(|i| spread(x, y, 8 * (i % 4) + i / 4))
 }

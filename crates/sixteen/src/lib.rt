@@ -12,6 +12,7 @@ ghost use Rattle.planes.specs.Planes.{plane_block, up_to};
 
 use planes::Planes;
 use rows::Row;
+use std::array::from_fn;
 
 // The S-box of each byte of a row: the circuit. Its parts are called here, and not the whole, which the compiler would call instead of putting
 // it into the loop: a function that is called from one place goes there whatever its length, and the whole has its place with one block.
@@ -25,52 +26,26 @@ fn s_boxes(q: Row) -> Row
     circuit::outputs(0xffff_ffff_ffff_ffff, z)
 }
 
+// Row 3 - l of a group.
+fn row(q: &Planes, l: usize) -> Row
+    requires { l < 4 }
+    ensures { result ≡ row_of q.now l }
+{
+    from_fn(|p| q[4 * p + l])
+}
+
 // SubBytes. The turns do not wait for each other, and what they read and write stands side by side: the compiler makes vectors of rows.
-// A call of `row` would copy the group in each turn, and keep it from that.
 fn sub_bytes(q: Planes) -> Planes
     ensures { map (plane_block result) (up_to 16) ≡ map (λ s. SubBytes (plane_block q s)) (up_to 16) }
 {
-    let mut r = [0u64; 32];
-    let mut l: usize = 0;
-    while l < 4 {
-        let b = s_boxes([
-            q[l],
-            q[4 + l],
-            q[8 + l],
-            q[12 + l],
-            q[16 + l],
-            q[20 + l],
-            q[24 + l],
-            q[28 + l],
-        ]);
-        r[l] = b[0];
-        r[4 + l] = b[1];
-        r[8 + l] = b[2];
-        r[12 + l] = b[3];
-        r[16 + l] = b[4];
-        r[20 + l] = b[5];
-        r[24 + l] = b[6];
-        r[28 + l] = b[7];
-        l += 1;
+    let mut r = [0; 32];
+    for l in 0..4 {
+        let b = s_boxes(row(&q, l));
+        for p in 0..8 {
+            r[4 * p + l] = b[p];
+        }
     }
     r
-}
-
-// Row 3 - l of a group.
-fn row(q: Planes, l: usize) -> Row
-    requires { l < 4 }
-    ensures { result ≡ row_of q l }
-{
-    [
-        q[l],
-        q[4 + l],
-        q[8 + l],
-        q[12 + l],
-        q[16 + l],
-        q[20 + l],
-        q[24 + l],
-        q[28 + l],
-    ]
 }
 
 // The group of four rows.
@@ -88,31 +63,23 @@ fn of_rows(a: Row, b: Row, c: Row, d: Row) -> Planes
 fn shift_and_mix(q: Planes) -> Planes
     ensures { map (plane_block result) (up_to 16) ≡ map (λ s. MixColumns (ShiftRows (plane_block q s))) (up_to 16) }
 {
-    let a = row(q, 3);
-    let s1 = row(q, 2);
-    let s2 = row(q, 1);
-    let s3 = row(q, 0);
-    let b = rows::turned(s1, 16);
-    let c = rows::turned(s2, 32);
-    let d = rows::turned(s3, 48);
-    let m0 = rows::mixed(a, b, c, d);
-    let m1 = rows::mixed(b, c, d, a);
-    let m2 = rows::mixed(c, d, a, b);
-    let m3 = rows::mixed(d, a, b, c);
-    of_rows(m0, m1, m2, m3)
+    let a = row(&q, 3);
+    let b = rows::turned(row(&q, 2), 16);
+    let c = rows::turned(row(&q, 1), 32);
+    let d = rows::turned(row(&q, 0), 48);
+    of_rows(
+        rows::mixed(a, b, c, d),
+        rows::mixed(b, c, d, a),
+        rows::mixed(c, d, a, b),
+        rows::mixed(d, a, b, c),
+    )
 }
 
 // AddRoundKey.
 fn add_key(q: Planes, k: &Planes) -> Planes
     ensures { result ≡ xor_planes q k.now }
 {
-    let mut r = [0u64; 32];
-    let mut i: usize = 0;
-    while i < 32 {
-        r[i] = q[i] ^ k[i];
-        i += 1;
-    }
-    r
+    from_fn(|i| q[i] ^ k[i])
 }
 
 // One round under the keys k, a key for each place: SubBytes, ShiftRows, MixColumns and AddRoundKey.
