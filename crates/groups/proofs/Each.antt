@@ -1,12 +1,10 @@
--- Groups by their entries, and a group that a loop fills from its first entry on.
+-- Groups by their entries.
 use mathlib.Core.List.{List, [], ◌∷◌}
 use mathlib.Core.Path.{◌≡◌, refl, ap, sym, ◌∙◌}
-use Prim.Native.Nat.{ℕ, zero, suc, ◌+◌, ◌≤◌, ◌<◌}
+use Prim.Native.Nat.{ℕ, zero, suc, ◌+◌, ◌<◌}
 use native.Mathlib.Nat.{not-suc-le-zero, zero-add}
 use native.Mathlib.Omega.{arith}
-use borrow.Author.Count.{below_more}
-use lib.ListN.{length, set, length-set}
-use lib.Seq.{get_or-set_same, get_or-set_other, ext_get_or}
+use lib.Seq.{ext_get_or}
 use Rattle.groups.specs.Groups.{each, entry}
 
 -- f a, f (a + 1), ..: n entries
@@ -29,26 +27,3 @@ at_each f i h = at_run f 0 16 i h ∙ ap f (zero-add i)
 pub each_same : (f g : ℕ → List ℕ) → ((i : ℕ) → i < 16 → f i ≡ g i) → each f ≡ each g
 each_same f g h =
     ext_get_or [] (each f) (each g) refl (λ i b. at_each f i b ∙ h i b ∙ sym (at_each g i b))
-
--- the first i entries of r are f's
-pub record Filled (f : ℕ → List ℕ) (r : List (List ℕ)) (i : ℕ) : Type 0 where
-  pub upto : i ≤ 16
-  pub long : length r ≡ 16
-  pub there : (j : ℕ) → j < i → entry r j ≡ f j
-
-module _ (f : ℕ → List ℕ) where
-  pub filled_none : (r : List (List ℕ)) → length r ≡ 16 → Filled f r 0
-  filled_none r e = record { upto = omega arith; long = e; there = λ j h. absurd (not-suc-le-zero h) }
-
-  pub filled_more : (r : List (List ℕ)) (i : ℕ) (x : List ℕ) → Filled f r i → i < 16 → x ≡ f i → Filled f (set r i x) (i + 1)
-  filled_more r i x p h e = record {
-    upto = omega arith;
-    long = length-set r i x ∙ p.long;
-    there = below_more (λ (j : ℕ). entry (set r i x) j ≡ f j) i
-        (λ j b. get_or-set_other r i j x [] (λ (s : j ≡ i). omega arith) ∙ p.there j b)
-        (get_or-set_same r i x [] (omega (arith, p.long)) ∙ e);
-  }
-
-  pub filled_all : (r : List (List ℕ)) (i : ℕ) → Filled f r i → 16 ≤ i → r ≡ each f
-  filled_all r i p h =
-      ext_get_or [] r (each f) p.long (λ j b. p.there j (omega (arith, p.long)) ∙ sym (at_each f j (omega (arith, p.long))))

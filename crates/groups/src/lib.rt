@@ -22,12 +22,9 @@ pub type Keys = [Planes; 4];
 pub fn xor(a: &Group, b: &Group) -> Group
     ensures { result ≡ each (λ i. columns_of (block_of (entry a.now i) ⊕ block_of (entry b.now i))) }
 {
-    let mut r = [[0u32; 4]; 16];
-    let mut i: usize = 0;
-    while i < 16 {
-        let x = columns::xor(a[i], b[i]);
-        r[i] = x;
-        i += 1;
+    let mut r = [[0; 4]; 16];
+    for i in 0..16 {
+        r[i] = columns::xor(a[i], b[i]);
     }
     r
 }
@@ -38,10 +35,10 @@ fn one_block(s: &[u8], at: usize) -> Columns
     ensures { result ≡ loaded s.now at }
 {
     if s.len() < at + 16 {
-        return [0u32; 4];
+        [0; 4]
+    } else {
+        columns::of_block(slices::load(s, at))
     }
-    let x = slices::load(s, at);
-    columns::of_block(x)
 }
 
 // Blocks that stand `step` bytes apart, from `at` on. Where s ends before a block does, the group has zeros.
@@ -49,14 +46,9 @@ pub fn load(s: &[u8], at: usize, step: usize) -> Group
     requires { (1 ≤ step) × (step ≤ 32) × (at ≤ 32) × (length s.now ≤ 65536) }
     ensures { result ≡ each (λ i. loaded s.now (at + i * step)) }
 {
-    let mut r = [[0u32; 4]; 16];
-    let mut place = at;
-    let mut i: usize = 0;
-    while i < 16 {
-        let x = one_block(s, place);
-        r[i] = x;
-        place += step;
-        i += 1;
+    let mut r = [[0; 4]; 16];
+    for i in 0..16 {
+        r[i] = one_block(s, at + i * step);
     }
     r
 }
@@ -66,12 +58,11 @@ pub fn sum(g: &Group, n: usize) -> [u8; 16]
     requires { n ≤ 16 }
     ensures { result ≡ sum n (λ i. block_of (entry g.now (i - 1))) }
 {
-    let mut total = [0u32; 4];
-    let mut i: usize = 0;
-    while i < n {
-        let more = columns::xor(total, g[i]);
+    let mut total = [0; 4];
+    for block in &g[..n] {
+        // (a call's result cannot yet be laid in an array that is there already: it goes by way of a new one)
+        let more = columns::xor(total, *block);
         total = more;
-        i += 1;
     }
     columns::to_block(total)
 }
@@ -81,17 +72,13 @@ pub fn masks(m: &[u32; 32], b: u32, power: Columns) -> Group
     requires { (1 ≤ b) × (b + 16 < 4294967296) }
     ensures { result ≡ each (λ i. columns_of (mask_from m.now b power i)) }
 {
-    let mut r = [[0u32; 4]; 16];
+    let mut r = [[0; 4]; 16];
     let mut p = power;
-    let mut n = b;
-    let mut i: usize = 0;
-    while i < 16 {
-        let x = masks::running_mask(m, n, p);
-        r[i] = x;
-        let next = masks::next_power(n, p);
+    for i in 0..16 {
+        r[i as usize] = masks::running_mask(m, b + i, p);
+        // (as in `sum`)
+        let next = masks::next_power(b + i, p);
         p = next;
-        n += 1;
-        i += 1;
     }
     r
 }
@@ -100,12 +87,13 @@ pub fn masks(m: &[u32; 32], b: u32, power: Columns) -> Group
 pub fn keys(k: tbc::Base) -> Keys
     ensures { (Holds (base k) result) × (result ≡ keys_of (base k)) }
 {
-    let b = k.blocks();
-    let i = planes::copies(b[0]);
-    let j = planes::copies(b[1]);
-    let l = planes::copies(b[2]);
-    let z = [0u64; 32];
-    [i, j, l, z]
+    let [i, j, l] = k.blocks();
+    [
+        planes::copies(i),
+        planes::copies(j),
+        planes::copies(l),
+        [0; 32],
+    ]
 }
 
 // AES4 of each block, on planes. The first key is zero: masks are added before.
@@ -117,7 +105,7 @@ fn aes4(k1: &Planes, k2: &Planes, k3: &Planes, k4: &Planes, g: &Group) -> Group
     planes::to_blocks(r)
 }
 
-// AES4 of each block under k0, k1 and k2 of lines 402 and 403.
+// AES4 of each block under k0, k1 and k2 of lines 402 and 403. The three differ in the list of keys alone, and each writes out its own.
 pub fn under0(k: &Keys, g: &Group) -> Group
     requires { EndsInZero k.now }
     ensures { result ≡ AES4s (λ i. k0 (key_for k.now i)) g.now }

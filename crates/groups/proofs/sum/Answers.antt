@@ -1,9 +1,6 @@
--- `groups::sum` meets its contract.
-use mathlib.Core.List.{List}
-use mathlib.Core.Path.{◌≡◌, refl, ap, ap₂, sym, ◌∙◌}
-use Prim.Native.Nat.{ℕ, ◌+◌, ◌-◌}
+-- `groups::sum`: a turn adds one block more.
+use Rattle.std.proofs.Common.{◌≡◌, ℕ, ◌+◌, ◌-◌, List, [], length, take, get_or, length-take-le, get_or-take, refl, ap, ap₂, sym, ◌∙◌, arith}
 use native.Mathlib.Numerals.{unary_clauses}
-use native.Mathlib.Omega.{arith}
 use Rattle.paper.specs.Strings.{Bytes, ◌⊕◌, sum}
 use Rattle.laws.proofs.Digits.{⊕_block}
 use Rattle.columns.specs.Columns.{block_of}
@@ -18,26 +15,26 @@ sum_next i f = simp unary_clauses refl
 abbrev up_to : List (List ℕ) → ℕ → Bytes
 up_to g n = sum n (λ i. block_of (entry g (i - 1)))
 
-pub loop-i-init : goal.loop-i-init
+pub loop-block-init : goal.loop-block-init
 unfolding sum
-loop-i-init c = (omega arith, refl)
+loop-block-init c = refl
 
-pub loop-i-preserved : goal.loop-i-preserved
-loop-i-preserved c =
-    let l = c.loop-i in
-    let a = c.args in
-    let g = a.g.now in
-    let one : l.i + 1 - 1 ≡ l.i = omega arith in (
-      omega arith,
-      ap block_of c.xor-more.ensures
-          ∙ columns_block (⊕_block (block_of_block l.total) (block_of_block (entry g l.i)))
-          ∙ ap₂ ◌⊕◌ l.invariant.1 (ap (λ (n : ℕ). block_of (entry g n)) (sym one))
-          ∙ sym (sum_next l.i (λ i. block_of (entry g (i - 1)))),
-    )
+pub loop-block-preserved : goal.loop-block-preserved
+loop-block-preserved c =
+    let g = c.args.g.now in
+    let l = c.loop-block in
+    let i = l.block-index in
+    let long : length (take c.args.n g) ≡ c.args.n = length-take-le c.args.n g (omega arith) in
+    let before : i + 1 - 1 ≡ i = omega arith in
+    let block : get_or (take c.args.n g) i [] ≡ entry g (i + 1 - 1) = get_or-take c.args.n g i [] (omega arith) ∙ ap (entry g) (sym before) in
+    ap block_of c.xor-more.ensures
+    ∙ columns_block (⊕_block (block_of_block l.total) (block_of_block (get_or (take c.args.n g) i [])))
+    ∙ ap₂ ◌⊕◌ l.invariant (ap block_of block)
+    ∙ sym (sum_next i (λ i. block_of (entry g (i - 1))))
 
 pub returns : goal.returns
 returns c =
-    let l = c.loop-i in
-    let a = c.args in
-    let all : l.i ≡ a.n = omega (arith, l.invariant.0) in
-    c.to_block.ensures ∙ l.invariant.1 ∙ ap (up_to a.g.now) all
+    let g = c.args.g.now in
+    let long : length (take c.args.n g) ≡ c.args.n = length-take-le c.args.n g (omega arith) in
+    let all : c.loop-block.block-index ≡ c.args.n = omega arith in
+    c.to_block.ensures ∙ c.loop-block.invariant ∙ ap (up_to g) all
