@@ -5,11 +5,12 @@ use mathlib.Core.Option.{Option, none, some}
 use mathlib.Core.Path.{◌≡◌, refl, ap, sym, ◌∙◌}
 use Prim.Native.Nat.{ℕ, ◌+◌, ◌≤◌, ◌<◌}
 use native.Mathlib.Omega.{arith}
-use borrow.Author.Tests.{ltb-true, ltb-false, lt-ltb, le-ltb, le-leb, lt-leb, eq-eqb, ne_eqb}
-use lib.Dec.{eqb, leb, ltb}
+use borrow.Author.Tests.{ltb-true, ltb-false, lt-ltb, le-ltb, eq-eqb, ne_eqb}
+use lib.Dec.{eqb, ltb}
 use lib.ListN.{length, take, drop}
 use lib.Seq.{length-take-le}
-use Rattle.std.specs.Prelude.{if◌then◌else◌}
+use Rattle.std.specs.Prelude.{Result, Ok, Err, if◌then◌else◌}
+use Rattle.std.specs.Result.{is_ok}
 use Rattle.paper.specs.Strings.{Bytes, Below}
 use Rattle.paper.specs.Document01.{reading, Outcome, refused}
 use Rattle.paper.specs.DayFile.{Day, write_day, longest_file, header_fits, read_day}
@@ -18,7 +19,6 @@ use Rattle.laws.proofs.Digits.{below_take}
 use Rattle.laws.proofs.DayReading.{read_write}
 use Rattle.laws.proofs.DayGrown.{grown_long}
 use Rattle.header.specs.declared.BadEntry.{BadEntry}
-use Rattle.std.specs.Prelude.{Ok, Err}
 use Rattle.header.specs.Places.{read_as}
 use Rattle.header.proofs.Fits.{reads_fits, bad_fits}
 use Rattle.laws.specs.Placing.{placed}
@@ -47,46 +47,23 @@ pub record Asked : Type 0 where
 
 -- ---- Whether it fits the layout
 
-module _ (number : ℕ) (header : Bytes) (stretch headers : ℕ) where
-  by_tests : {a b f e : Bool} → ltb number headers ≡ a → eqb number headers ≡ b → header_fits header ≡ f → leb stretch 64 ≡ e
-      → ((a || (b && f)) && e) ≡ append_fits number header stretch headers
-  by_tests p q r s = λ i. (sym p i || (sym q i && sym r i)) && sym s i
+-- the header's number, and the header where it is a new one
+abbrev pub named : ℕ → Bytes → ℕ → Bool
+named number header headers = ltb number headers || (eqb number headers && header_fits header)
 
-  and_none : (a : Bool) → (a && false) ≡ false
-  and_none true = refl
-  and_none false = refl
+reads_ok : (h : Bytes) (r : Result ℕ BadEntry) → r ≡ read_as (reading h) → is_ok r ≡ header_fits h
+reads_ok h (Ok n) e = sym (reads_fits h n e)
+reads_ok h (Err k) e = sym (bad_fits h k e)
 
-  pub unfit_stretch : 64 < stretch → false ≡ append_fits number header stretch headers
-  unfit_stretch p =
-      sym (and_none (ltb number headers || (eqb number headers && header_fits header))) ∙ by_tests refl refl refl (lt-leb stretch 64 p)
+module _ (number : ℕ) (header : Bytes) (headers : ℕ) where
+  pub named_there : number < headers → ltb number headers ≡ named number header headers
+  named_there p = lt-ltb number headers p ∙ ap (λ (b : Bool). b || (eqb number headers && header_fits header)) (sym (lt-ltb number headers p))
 
-  pub fit_there : stretch ≤ 64 → number < headers → true ≡ append_fits number header stretch headers
-  fit_there p q = by_tests {b = eqb number headers} {f = header_fits header} (lt-ltb number headers q) refl refl (le-leb stretch 64 p)
+  pub named_next : number ≡ headers → (r : Result ℕ BadEntry) → r ≡ read_as (reading header) → is_ok r ≡ named number header headers
+  named_next p r e = reads_ok header r e ∙ (λ i. sym (le-ltb number headers (omega arith)) i || (sym (eq-eqb number headers p) i && header_fits header))
 
-  pub unfit_number : headers ≤ number → (number ≡ headers → ⊥) → false ≡ append_fits number header stretch headers
-  unfit_number p q = by_tests {f = header_fits header} {e = leb stretch 64} (le-ltb number headers p) (ne_eqb number headers q) refl refl
-
-  pub unfit_header : number ≡ headers → (k : BadEntry) → Err k ≡ read_as (reading header) → false ≡ append_fits number header stretch headers
-  unfit_header p k q =
-      by_tests {e = leb stretch 64} (le-ltb number headers (omega arith)) (eq-eqb number headers p) (bad_fits header k q) refl
-
-  pub fit_next : stretch ≤ 64 → number ≡ headers → (n : ℕ) → Ok n ≡ read_as (reading header) → true ≡ append_fits number header stretch headers
-  fit_next p q n r =
-      by_tests (le-ltb number headers (omega arith)) (eq-eqb number headers q) (reads_fits header n r) (le-leb stretch 64 p)
-
-  -- ---- Its length
-
-  pub taken_there : number < headers → taken number header headers ≡ 0
-  taken_there p = ap (λ (b : Bool). if b then 0 else 2 + length header) (lt-ltb number headers p)
-
-  pub taken_next : headers ≤ number → taken number header headers ≡ 2 + length header
-  taken_next p = ap (λ (b : Bool). if b then 0 else 2 + length header) (le-ltb number headers p)
-
-pub capped_over : (n : ℕ) → 65536 < n → 65537 ≡ capped n
-capped_over n p = ap (λ (b : Bool). if b then 65537 else n) (sym (lt-ltb 65536 n p))
-
-pub capped_under : (n : ℕ) → n ≤ 65536 → n ≡ capped n
-capped_under n p = ap (λ (b : Bool). if b then 65537 else n) (sym (le-ltb 65536 n p))
+  pub named_past : headers ≤ number → (number ≡ headers → ⊥) → eqb number headers ≡ named number header headers
+  named_past p q = ne_eqb number headers q ∙ (λ i. sym (le-ltb number headers p) i || (sym (ne_eqb number headers q) i && header_fits header))
 
 -- ---- The call
 

@@ -13,46 +13,24 @@ use day::Checked;
 fn fits(headers: usize, number: u64, header: &[u8], stretch: u64) -> bool
     ensures { result ≡ append_fits number header.now stretch headers }
 {
-    if 64 < stretch {
-        return false;
-    }
-    if number < headers as u64 {
-        return true;
-    }
-    if number != headers as u64 {
-        return false;
-    }
-    let Ok(_) = header::read(header) else {
-        return false;
-    };
-    true
+    (number < headers as u64 || (number == headers as u64 && header::read(header).is_ok()))
+        && stretch <= 64
 }
 
-// A length up to 65,536, and 65,537 for any above.
-fn cap(n: usize) -> usize
-    ensures { result ≡ capped n }
-{
-    if 65536 < n {
-        return 65537;
-    }
-    n
-}
-
-// The length of the grown file, where the file has so many bytes and headers.
+// The length of the grown file, where the file has so many bytes and headers; 65,537 for all that is longer.
 fn grown_size(size: usize, headers: usize, number: u64, header: &[u8], sealed: &[u8]) -> usize
     requires { size ≤ 65536 }
     ensures { result ≡ capped (size + taken number header.now headers + 11 + length sealed.now) }
 {
-    if 65536 < sealed.len() {
-        return 65537;
-    }
-    if number < headers as u64 {
-        return cap(size + 11 + sealed.len());
-    }
-    if 65536 < header.len() {
-        return 65537;
-    }
-    cap(size + 2 + header.len() + 11 + sealed.len())
+    let taken = if number < headers as u64 {
+        0
+    } else {
+        header.len().saturating_add(2)
+    };
+    taken
+        .saturating_add(sealed.len())
+        .saturating_add(size + 11)
+        .min(65537)
 }
 
 // Appending: 9, then 6 for a grown file that is above the buffer or above 65,536 bytes. Nothing is written before the answer is settled.

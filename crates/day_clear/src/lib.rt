@@ -13,17 +13,11 @@ fn rising(dropped: &[u64], records: usize) -> bool
     ensures { result ≡ rising_from 0 records dropped.now }
 {
     let mut low: u64 = 0;
-    let mut i: usize = 0;
-    while i < dropped.len() {
-        let n = dropped[i];
-        if n < low {
+    for n in dropped {
+        if *n < low || records as u64 <= *n {
             return false;
         }
-        if records as u64 <= n {
-            return false;
-        }
-        low = n + 1;
-        i += 1;
+        low = *n + 1;
     }
     true
 }

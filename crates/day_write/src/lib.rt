@@ -12,19 +12,11 @@ use answer::Answer;
 fn size(headers: usize, joined: usize, records: usize, sealed: usize) -> usize
     ensures { (result ≤ 65536 → result ≡ size_of headers joined records sealed) × (65536 < result → 65536 < size_of headers joined records sealed) }
 {
-    if 65536 < headers {
-        return 65537;
+    if headers > 65536 || joined > 65536 || records > 65536 || sealed > 65536 {
+        65537
+    } else {
+        12 + 2 * headers + joined + 11 * records + sealed
     }
-    if 65536 < joined {
-        return 65537;
-    }
-    if 65536 < records {
-        return 65537;
-    }
-    if 65536 < sealed {
-        return 65537;
-    }
-    12 + 2 * headers + joined + 11 * records + sealed
 }
 
 // What the writer answers for a room of so many bytes: 9, then 4, then 6, else 0.
