@@ -10,7 +10,6 @@ ghost use Rattle.paper.specs.Ledger.{reporting, reporting_figures};
 ghost use Rattle.paper.specs.DayEdits.{clearing, appending};
 
 use answer::StretchBytes;
-use day::Checked;
 use header::BadEntry;
 
 // Sealing.
@@ -115,16 +114,11 @@ pub fn aez_day_write(
 pub fn aez_day_records(file: &[u8], records: &mut u64) -> u32
     ensures { (result ≡ (counting file.now).number) × (records.new ≡ (counting file.now).records) }
 {
-    let Checked::Day {
-        headers: _,
-        records: n,
-        first: _,
-    } = day::check(file)
-    else {
+    let Some(day) = day::check(file) else {
         *records = 0;
         return 9;
     };
-    *records = n as u64;
+    *records = day.records as u64;
     0
 }
 

@@ -10,6 +10,7 @@ use mathlib.Core.Path.{◌≡◌, refl, ap, sym, ◌∙◌}
 use Prim.Native.Nat.{ℕ}
 use native.Mathlib.Omega.{arith}
 use lib.ListN.{length, drop, length-drop}
+use Rattle.std.specs.Prelude.{Option as Answered, Some, None}
 use Rattle.paper.specs.Strings.{Bytes, tab}
 use Rattle.paper.specs.Section7.{◌·◌}
 use Rattle.paper.specs.Figure6 as figure6
@@ -18,10 +19,7 @@ use Rattle.answer.specs.Outcomes.{outcome, outcome_at}
 use Rattle.answer.specs.declared.Answer.{Answer}
 use Rattle.answer.specs.declared.AnswerAt.{AnswerAt}
 use Rattle.paper.specs.DayFile.{before, read_records, Listing}
-use Rattle.day_steps.specs.declared.Step.{Step}
-use Rattle.day_steps.specs.declared.Step.TheVariants as step
-use Rattle.day_steps.specs.declared.Walk.{Walk}
-use Rattle.day_steps.specs.declared.Walk.TheVariants as walk
+use Rattle.day_steps.specs.declared.Entry.{Entry}
 use Rattle.day_steps.specs.Walks.{record_of, RecordStep, HeadersWalk}
 use Rattle.day_list.specs.declared.Listed.{Listed}
 use Rattle.day_list.specs.Lists.{listing_as}
@@ -193,24 +191,24 @@ no_records headers X = refl
 no_two : {A B : Type 0} {x : A} → none ≡ some x → B
 no_two e = absurd (let z : ◌≡◌ {A = ℕ} 0 1 = cc in omega arith)
 
-one_step : (file : Bytes) (headers at : ℕ) (z w : Step) → RecordStep z file headers at → RecordStep w file headers at → z ≡ w
-one_step file headers at step.Bad step.Bad p q = refl
-one_step file headers at step.Bad (step.To e) p q = no_two (sym (p 0) ∙ q.2 0 ∙ ap (before (record_of file e)) (no_records headers (drop e.end file)))
-one_step file headers at (step.To e) step.Bad p q = no_two (sym (q 0) ∙ p.2 0 ∙ ap (before (record_of file e)) (no_records headers (drop e.end file)))
-one_step file headers at (step.To e) (step.To g) p q = ap step.To (one p.0 q.0)
+one_step : (file : Bytes) (headers at : ℕ) (z w : Answered Entry) → RecordStep z file headers at → RecordStep w file headers at → z ≡ w
+one_step file headers at None None p q = refl
+one_step file headers at None (Some e) p q = no_two (sym (p 0) ∙ q.2 0 ∙ ap (before (record_of file e)) (no_records headers (drop e.end file)))
+one_step file headers at (Some e) None p q = no_two (sym (q 0) ∙ p.2 0 ∙ ap (before (record_of file e)) (no_records headers (drop e.end file)))
+one_step file headers at (Some e) (Some g) p q = ap Some (one p.0 q.0)
 
 abbrev after : Option (List Bytes × Bytes) → Bytes
 after none = []
 after (some (hs, X)) = X
 
-one_walk : (file : Bytes) (n : ℕ) (z w : Walk) → HeadersWalk z file n → HeadersWalk w file n → z ≡ w
-one_walk file n walk.Bad walk.Bad p q = refl
-one_walk file n walk.Bad (walk.To b) p q = no_two (sym p ∙ q.1.1)
-one_walk file n (walk.To a) walk.Bad p q = no_two (sym q ∙ p.1.1)
-one_walk file n (walk.To a) (walk.To b) p q =
+one_walk : (file : Bytes) (n : ℕ) (z w : Answered ℕ) → HeadersWalk z file n → HeadersWalk w file n → z ≡ w
+one_walk file n None None p q = refl
+one_walk file n None (Some b) p q = no_two (sym p ∙ q.1.1)
+one_walk file n (Some a) None p q = no_two (sym q ∙ p.1.1)
+one_walk file n (Some a) (Some b) p q =
     let rest : drop a file ≡ drop b file = ap after (sym p.1.1 ∙ q.1.1) in
     let same : a ≡ b = omega (arith, p.0, q.0, ap length rest, length-drop a file, length-drop b file) in
-    ap walk.To same
+    ap Some same
 
 -- a key record by its blocks, of which the others are multiples
 one_key : (z w : Key) (k : figure6.Key) → blocks z ≡ k → Kept z → blocks w ≡ k → Kept w → z ≡ w

@@ -19,7 +19,7 @@ use Rattle.laws.proofs.DayWritten.{places_many, places_long}
 use Rattle.laws.proofs.DayWritten as written
 use Rattle.laws.proofs.DayReading.{IfRecords, RecordsWritten, records_written_lem}
 use Rattle.day_steps.specs.declared.Entry.{Entry}
-use Rattle.day_steps.specs.declared.Step.TheVariants.{To, Bad}
+use Rattle.std.specs.Prelude.{Some, None}
 use Rattle.day_steps.specs.Walks.{record_of, RecordStep}
 use Rattle.day.specs.Checks.{index_from, right_index}
 use Rattle.day_steps.proofs.Sections.{one_left}
@@ -161,11 +161,11 @@ module _ (f : Bytes) (low : Below 256 f) (short : length f ≤ 65536) (m : ℕ) 
     abbrev rest_read : Option (List Record × Bytes)
     rest_read = read_records headers left (drop at f)
 
-    read_on : (e : Entry) → RecordStep (To e) f headers at → rest_read ≡ before (record_of f e) (read_records headers (left - 1) (drop e.end f))
+    read_on : (e : Entry) → RecordStep (Some e) f headers at → rest_read ≡ before (record_of f e) (read_records headers (left - 1) (drop e.end f))
     read_on e s = ap (λ (n : ℕ). read_records headers n (drop at f)) (one_left left some_left) ∙ s.2 (left - 1)
 
     -- the record ends where the next one stands
-    ends : (e : Entry) → RecordStep (To e) f headers at → at + length (write_record (record_of f e)) ≡ e.end
+    ends : (e : Entry) → RecordStep (Some e) f headers at → at + length (write_record (record_of f e)) ≡ e.end
     ends e s =
         let start : e.start ≡ at + 7 = ap (λ (x : Entry). x.start) s.0 in
         let end : e.end ≡ at + 7 + value (take 4 (drop (at + 3) f)) = ap (λ (x : Entry). x.end) s.0 in
@@ -173,7 +173,7 @@ module _ (f : Bytes) (low : Below 256 f) (short : length f ≤ 65536) (m : ℕ) 
         length-take-le (e.end - e.start) (drop e.start f) (omega (arith, length-drop e.start f, s.1)) in
         omega (arith, written.record_long (record_of f e), sealed, start, end)
 
-    pub records_turn : (e : Entry) → RecordStep (To e) f headers at → value (take 4 (drop place f)) ≡ at
+    pub records_turn : (e : Entry) → RecordStep (Some e) f headers at → value (take 4 (drop place f)) ≡ at
         → pending f m at place rest_read ≡ pending f m e.end (place + 4) (read_records headers (left - 1) (drop e.end f))
     records_turn e s right =
         let o = read_records headers (left - 1) (drop e.end f) in
@@ -181,11 +181,11 @@ module _ (f : Bytes) (low : Below 256 f) (short : length f ≤ 65536) (m : ℕ) 
         ∙ entry_right at place inside has-entry (record_of f e) right o
         ∙ ap (λ (k : ℕ). pending f m k (place + 4) o) (ends e s)
 
-    pub records_wrong : (e : Entry) → RecordStep (To e) f headers at → (value (take 4 (drop place f)) ≡ at → ⊥) → pending f m at place rest_read ≡ false
+    pub records_wrong : (e : Entry) → RecordStep (Some e) f headers at → (value (take 4 (drop place f)) ≡ at → ⊥) → pending f m at place rest_read ≡ false
     records_wrong e s wrong =
         ap (pending f m at place) (read_on e s) ∙ entry_wrong at place inside has-entry (record_of f e) wrong (read_records headers (left - 1) (drop e.end f))
 
-    pub records_stop : RecordStep Bad f headers at → pending f m at place rest_read ≡ false
+    pub records_stop : RecordStep None f headers at → pending f m at place rest_read ≡ false
     records_stop s = ap (λ (n : ℕ). pending f m at place (read_records headers n (drop at f))) (one_left left some_left) ∙ ap (pending f m at place) (s (left - 1))
 
   -- ---- After the last record

@@ -1,2 +1,3 @@
 mod Index
 mod Whole
+pub mod Found

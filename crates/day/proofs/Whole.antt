@@ -9,7 +9,7 @@ use borrow.Author.Tests.{le-leb, lt-leb}
 use lib.Dec.{leb}
 use lib.ListN.{length, take, drop, length-append, length-drop}
 use lib.Seq.{drop-drop}
-use Rattle.std.specs.Prelude.{if◌then◌else◌}
+use Rattle.std.specs.Prelude.{if◌then◌else◌, Some, None}
 use Rattle.paper.specs.Strings.{Bytes, Below, same, digits}
 use Rattle.paper.specs.Document01.{write_strings}
 use Rattle.paper.specs.DayFile.{Record, write_records, first_place, places_from, write_places, write_index, longest_file, value, read_headers, read_records, read_index, read_rest, read_day}
@@ -17,16 +17,16 @@ use Rattle.laws.proofs.Digits.{below_drop}
 use Rattle.laws.proofs.Sealing.{same_equal}
 use Rattle.laws.proofs.DayWritten.{first_place_lem, places_many, places_long}
 use Rattle.laws.proofs.DayReading.{IfHeaders, HeadersWritten, headers_written_lem, IfRecords, RecordsWritten, records_written_lem}
-use Rattle.day.specs.declared.Checked.TheVariants as checked
+use Rattle.day.specs.declared.Day.{Day as Counts}
 use Rattle.day.specs.Checks.{index_from, right_index, checked_as}
 
-pub file_few : (f : Bytes) → length f < 4 → checked.Bad ≡ checked_as (read_day f)
+pub file_few : (f : Bytes) → length f < 4 → None ≡ checked_as (read_day f)
 unfolding read_day
 file_few f p =
     ap checked_as
     (ap (λ (b : Bool). if b && leb (length f) longest_file then read_rest (read_headers (value (take 4 f)) (drop 4 f)) else none) (sym (lt-leb 4 (length f) p)))
 
-pub file_long : (f : Bytes) → 65536 < length f → checked.Bad ≡ checked_as (read_day f)
+pub file_long : (f : Bytes) → 65536 < length f → None ≡ checked_as (read_day f)
 unfolding read_day
 file_long f p =
     ap checked_as
@@ -40,7 +40,7 @@ module _ (f : Bytes) (low : Below 256 f) (four : 4 ≤ length f) (short : length
       (λ i. if le-leb 4 (length f) four i && le-leb (length f) longest_file short i then read_rest (read_headers (value (take 4 f)) (drop 4 f)) else none)
       ∙ ap (λ (k : ℕ). read_rest (read_headers k (drop 4 f))) (sym count)
 
-  pub headers_bad : read_headers n (drop 4 f) ≡ none → checked.Bad ≡ checked_as (read_day f)
+  pub headers_bad : read_headers n (drop 4 f) ≡ none → None ≡ checked_as (read_day f)
   unfolding read_rest
   headers_bad e = ap checked_as (sym (by_headers ∙ ap read_rest e))
 
@@ -54,7 +54,7 @@ module _ (f : Bytes) (low : Below 256 f) (four : 4 ≤ length f) (short : length
         omega
         (arith, first_place_lem hs, ap length walked.bytes, length-append (write_strings hs) (drop end f), length-drop 4 f, length-drop end f)
 
-    pub records_few : length f - end < 4 → checked.Bad ≡ checked_as (read_day f)
+    pub records_few : length f - end < 4 → None ≡ checked_as (read_day f)
     unfolding read_rest
     records_few p =
         ap checked_as
@@ -65,6 +65,9 @@ module _ (f : Bytes) (low : Below 256 f) (four : 4 ≤ length f) (short : length
         (lt-leb 4 (length (drop end f)) (omega (arith, length-drop end f)))))
 
     module _ (more : 4 ≤ length f - end) (m : ℕ) (many : m ≡ value (take 4 (drop end f))) where
+      abbrev counts : Counts
+      counts = record { headers = n; records = m; first = end + 4 }
+
       abbrev read : Option (List Record × Bytes)
       read = read_records n m (drop (end + 4) f)
 
@@ -78,29 +81,29 @@ module _ (f : Bytes) (low : Below 256 f) (four : 4 ≤ length f) (short : length
           ∙ (λ i. read_index hs (read_records (walked.count i) (sym many i) (drop-drop 4 end f i)))
 
       -- by the index
-      by_index : (b : Bool) → right_index (end + 4) read ≡ b → checked_as (read_day f) ≡ (if b then checked.Day n m (end + 4) else checked.Bad)
+      by_index : (b : Bool) → right_index (end + 4) read ≡ b → checked_as (read_day f) ≡ (if b then Some counts else None)
       unfolding read_index write_index
       by_index b e =
           ap checked_as by_records
           ∙ go read (records_written_lem n m (drop (end + 4) f) (below_drop 256 (end + 4) f low)) b (sym (ap (λ (k : ℕ). right_index k read) first_is) ∙ e)
         where
           go : (o : Option (List Record × Bytes)) → IfRecords n m (drop (end + 4) f) o → (b : Bool) → right_index (first_place hs) o ≡ b
-              → checked_as (read_index hs o) ≡ (if b then checked.Day n m (end + 4) else checked.Bad)
+              → checked_as (read_index hs o) ≡ (if b then Some counts else None)
           go none w true e = cc
           go none w false e = refl
           go (some (rs, rest)) w true e =
               ap (λ (b : Bool). checked_as (if b then some (record { headers = hs; records = rs }) else none)) e
-              ∙ (λ i. checked.Day (walked.count i) (w.count i) (sym first_is i))
+              ∙ (λ i. Some (record { headers = walked.count i; records = w.count i; first = sym first_is i }))
           go (some (rs, rest)) w false e = ap (λ (b : Bool). checked_as (if b then some (record { headers = hs; records = rs }) else none)) e
 
-      pub file_reads : right_index (end + 4) read ≡ true → checked.Day n m (end + 4) ≡ checked_as (read_day f)
+      pub file_reads : right_index (end + 4) read ≡ true → Some counts ≡ checked_as (read_day f)
       file_reads e = sym (by_index true e)
 
-      pub file_bad : right_index (end + 4) read ≡ false → checked.Bad ≡ checked_as (read_day f)
+      pub file_bad : right_index (end + 4) read ≡ false → None ≡ checked_as (read_day f)
       file_bad e = sym (by_index false e)
 
       -- more records than the file has room for in its index
-      pub too_many : length f < 4 * m → checked.Bad ≡ checked_as (read_day f)
+      pub too_many : length f < 4 * m → None ≡ checked_as (read_day f)
       too_many p = file_bad (go read (records_written_lem n m (drop (end + 4) f) (below_drop 256 (end + 4) f low)))
         where
           differs : (rs : List Record) (rest : Bytes) → RecordsWritten n m (drop (end + 4) f) rs rest → (b : Bool) → same rest (index_from (end + 4) rs) ≡ b → b ≡ false

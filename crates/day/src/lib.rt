@@ -5,17 +5,14 @@ ghost use Rattle.std.specs.Prelude.{◌≡◌, ◌*◌, ◌≤◌, length, drop}
 ghost use Rattle.paper.specs.DayFile.{read_records, read_day};
 ghost use Rattle.day.specs.Checks.{right_index, checked_as};
 
-use day_steps::{Step, Walk};
+const LONGEST_FILE: usize = 65536;
 
-// How many headers and records a file has, and where its first record stands; or that it does not read.
+// How many headers and records a file that reads has, and where its first record stands.
 #[derive(Clone, Copy)]
-pub enum Checked {
-    Day {
-        headers: usize,
-        records: usize,
-        first: usize,
-    },
-    Bad,
+pub struct Day {
+    pub headers: usize,
+    pub records: usize,
+    pub first: usize,
 }
 
 // Whether so many records read from a place on, and what follows them is exactly their index. Its entries are the file's last bytes, so each
@@ -24,54 +21,42 @@ fn records_right(file: &[u8], headers: usize, records: usize, first: usize) -> b
     requires { (first ≤ length file.now) × (length file.now ≤ 65536) × (4 * records ≤ length file.now) }
     ensures { result ≡ right_index first (read_records headers records (drop first file.now)) }
 {
+    let entries = file.len() - 4 * records;
     let mut at = first;
-    let mut place = file.len() - 4 * records;
-    let mut left = records;
-    while 0 < left {
-        let Step::To(e) = day_steps::record_at(file, headers, at) else {
+    for k in 0..records {
+        let place = entries + 4 * k;
+        let Some(e) = day_steps::record_at(file, headers, at) else {
             return false;
         };
         if numbers::read::<4>(file, place) != at {
             return false;
         }
         at = e.end;
-        place += 4;
-        left -= 1;
     }
-    if file.len() - at != 4 + 4 * records {
-        return false;
-    }
-    numbers::read::<4>(file, at) == records
+    file.len() - at == 4 + 4 * records && numbers::read::<4>(file, at) == records
 }
 
-// Whether a file reads, in one pass over it.
-pub fn check(file: &[u8]) -> Checked
+// What a file that reads has, in one pass over it.
+pub fn check(file: &[u8]) -> Option<Day>
     ensures { result ≡ checked_as (read_day file.now) }
 {
-    if file.len() < 4 {
-        return Checked::Bad;
-    }
-    if 65536 < file.len() {
-        return Checked::Bad;
+    if file.len() < 4 || LONGEST_FILE < file.len() {
+        return None;
     }
     let headers = numbers::read::<4>(file, 0);
-    let Walk::To(end) = day_steps::headers_end(file, headers) else {
-        return Checked::Bad;
-    };
+    let end = day_steps::headers_end(file, headers)?;
     if file.len() - end < 4 {
-        return Checked::Bad;
+        return None;
     }
     let records = numbers::read::<4>(file, end);
     let first = end + 4;
-    if file.len() < 4 * records {
-        return Checked::Bad;
-    }
-    if records_right(file, headers, records, first) {
-        return Checked::Day {
+    if 4 * records <= file.len() && records_right(file, headers, records, first) {
+        Some(Day {
             headers,
             records,
             first,
-        };
+        })
+    } else {
+        None
     }
-    Checked::Bad
 }

@@ -22,7 +22,7 @@ use Rattle.header.specs.declared.BadEntry.{BadEntry}
 use Rattle.header.specs.Places.{read_as}
 use Rattle.header.proofs.Fits.{reads_fits, bad_fits}
 use Rattle.laws.specs.Placing.{placed}
-use Rattle.day.specs.declared.Checked.TheVariants as checked
+use Rattle.std.specs.Prelude.{None}
 use Rattle.day.specs.Checks.{checked_as}
 use Rattle.day_place.proofs.Held.{Counted}
 use Rattle.day_grow.specs.Grown.{Ready, grown_file}
@@ -79,11 +79,11 @@ module _ (B : Bytes) (size number : ℕ) (header : Bytes) (stretch : ℕ) (seale
   unfolding appending
   past_buffer p = ap (λ (b : Bool). if b then refused 9 B else append_in (read_day (take size B)) number header stretch sealed B) (sym (lt-ltb (length B) size p))
 
-  pub unread : size ≤ length B → checked.Bad ≡ checked_as (read_day (take size B)) → refused 9 B ≡ called
+  pub unread : size ≤ length B → None ≡ checked_as (read_day (take size B)) → refused 9 B ≡ called
   unfolding append_in
   unread p e = go (read_day (take size B)) e ∙ inside p
     where
-      go : (o : Option Day) → checked.Bad ≡ checked_as o → refused 9 B ≡ append_in o number header stretch sealed B
+      go : (o : Option Day) → None ≡ checked_as o → refused 9 B ≡ append_in o number header stretch sealed B
       go none e = refl
       go (some day) e = cc
 

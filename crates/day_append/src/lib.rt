@@ -7,7 +7,6 @@ ghost use Rattle.answer.specs.Outcomes.{outcome};
 ghost use Rattle.day_append.specs.Appended.{capped, taken};
 
 use answer::Answer;
-use day::Checked;
 
 // Whether an append is within the layout, where the file has so many headers.
 fn fits(headers: usize, number: u64, header: &[u8], stretch: u64) -> bool
@@ -51,19 +50,14 @@ pub fn append(
         };
     }
     let end = size as usize;
-    let Checked::Day {
-        headers,
-        records,
-        first,
-    } = day::check(&buffer[..end])
-    else {
+    let Some(day) = day::check(&buffer[..end]) else {
         return Answer {
             number: 9,
             length: 0,
         };
     };
-    if fits(headers, number, header, stretch) {
-        let n = grown_size(end, headers, number, header, sealed);
+    if fits(day.headers, number, header, stretch) {
+        let n = grown_size(end, day.headers, number, header, sealed);
         if 65536 < n {
             return Answer {
                 number: 6,
@@ -79,9 +73,9 @@ pub fn append(
         day_grow::put_grown(
             buffer,
             end,
-            headers,
-            records,
-            first,
+            day.headers,
+            day.records,
+            day.first,
             number as usize,
             header,
             stretch,

@@ -11,7 +11,7 @@ use Rattle.paper.specs.Strings.{Bytes}
 use Rattle.paper.specs.Document01.{Outcome, refused}
 use Rattle.paper.specs.DayFile.{Day, write_day, read_day}
 use Rattle.paper.specs.DayEdits.{cleared, rising_from, shrunk, clear_in, clearing}
-use Rattle.day.specs.declared.Checked.TheVariants as checked
+use Rattle.std.specs.Prelude.{None}
 use Rattle.day.specs.Checks.{checked_as}
 use Rattle.day_place.proofs.Held.{Counted}
 use Rattle.day_pack.specs.Cleared.{Clearable, cleared_file, cleared_buffer}
@@ -28,11 +28,11 @@ module _ (B : Bytes) (size : ℕ) (dropped : List ℕ) where
   unfolding clearing
   past_buffer p = ap (λ (b : Bool). if b then refused 9 B else clear_in (read_day (take size B)) size dropped B) (sym (lt-ltb (length B) size p))
 
-  pub unread : size ≤ length B → checked.Bad ≡ checked_as (read_day (take size B)) → refused 9 B ≡ called
+  pub unread : size ≤ length B → None ≡ checked_as (read_day (take size B)) → refused 9 B ≡ called
   unfolding clear_in
   unread p e = go (read_day (take size B)) e ∙ inside p
     where
-      go : (o : Option Day) → checked.Bad ≡ checked_as o → refused 9 B ≡ clear_in o size dropped B
+      go : (o : Option Day) → None ≡ checked_as o → refused 9 B ≡ clear_in o size dropped B
       go none e = refl
       go (some day) e = cc
 

@@ -6,7 +6,6 @@ ghost use Rattle.paper.specs.DayEdits.{rising_from, clearing};
 ghost use Rattle.answer.specs.Outcomes.{outcome};
 
 use answer::Answer;
-use day::Checked;
 
 // Whether a list is strictly rising and each number below the count of records.
 fn rising(dropped: &[u64], records: usize) -> bool
@@ -33,19 +32,14 @@ pub fn clear(buffer: &mut [u8], size: u64, dropped: &[u64]) -> Answer
         };
     }
     let end = size as usize;
-    let Checked::Day {
-        headers,
-        records,
-        first,
-    } = day::check(&buffer[..end])
-    else {
+    let Some(day) = day::check(&buffer[..end]) else {
         return Answer {
             number: 9,
             length: 0,
         };
     };
-    if rising(dropped, records) {
-        let n = day_pack::put_cleared(buffer, end, headers, records, first, dropped);
+    if rising(dropped, day.records) {
+        let n = day_pack::put_cleared(buffer, end, day.headers, day.records, day.first, dropped);
         return Answer {
             number: 0,
             length: n,

@@ -17,10 +17,11 @@ use Rattle.laws.proofs.DayReading.{read_write}
 use Rattle.laws.proofs.DayPlaces.{elem_drop, place_after}
 use Rattle.laws.specs.Placing.{placed}
 use Rattle.laws.proofs.Placed.{placed_then}
-use Rattle.day.specs.declared.Checked.TheVariants as checked
+use Rattle.std.specs.Prelude.{None, Some}
 use Rattle.day_steps.specs.declared.Entry.{Entry}
 use Rattle.day_steps.specs.Walks.{entry_at}
-use Rattle.day.specs.Checks.{checked_as}
+use Rattle.day.specs.Checks.{checked_as, checked_day}
+use Rattle.day.proofs.Found.{counts_are}
 use Rattle.day_find.specs.Finds.{headers_in, records_in, length_place}
 use Rattle.day_list.specs.Lists.{headers_listed, record_place, records_listed}
 use Rattle.day_find.proofs.Finding.{Stands, stands}
@@ -174,11 +175,11 @@ module _ (f : Bytes) (low : Below 256 f) (records i at : ℕ) (many : records �
 abbrev refusal : ℕ → List ℕ → Listing
 refusal n places = record { number = n; headers = 0; records = 0; places = places }
 
-pub lists_unread : (f : Bytes) (places : List ℕ) → checked.Bad ≡ checked_as (read_day f) → refusal 9 places ≡ listing f places
+pub lists_unread : (f : Bytes) (places : List ℕ) → None ≡ checked_as (read_day f) → refusal 9 places ≡ listing f places
 unfolding listing
 lists_unread f places e = go (read_day f) e
   where
-    go : (o : Option Day) → checked.Bad ≡ checked_as o → refusal 9 places ≡ listed o places
+    go : (o : Option Day) → None ≡ checked_as o → refusal 9 places ≡ listed o places
     go none e = refl
     go (some day) e = cc
 
@@ -188,18 +189,18 @@ pub record Counted (o : Option Day) (headers records first : ℕ) : Type 0 where
   pub records_are : records ≡ records_in o
   pub first_is : first ≡ record_place o 0
 
-pub counted : (o : Option Day) (headers records first : ℕ) → checked.Day headers records first ≡ checked_as o → Counted o headers records first
+pub counted : (o : Option Day) (headers records first : ℕ) → Some (checked_day headers records first) ≡ checked_as o → Counted o headers records first
 unfolding record_place write_records
 counted none headers records first e = record { headers_are = (cc); records_are = (cc); first_is = (cc) }
 counted (some day) headers records first e =
-    let is : first ≡ first_place day.headers = cc in
-    record { headers_are = (cc); records_are = (cc); first_is = omega (arith, is) }
+    let c = counts_are day headers records first e in
+    record { headers_are = c.0; records_are = c.1; first_is = omega (arith, c.2) }
 
 -- the counts are small
-pub counts_small : (f : Bytes) → Below 256 f → (headers records first : ℕ) → checked.Day headers records first ≡ checked_as (read_day f) → 2 * headers + 4 * records ≤ 65536
+pub counts_small : (f : Bytes) → Below 256 f → (headers records first : ℕ) → Some (checked_day headers records first) ≡ checked_as (read_day f) → 2 * headers + 4 * records ≤ 65536
 counts_small f low headers records first e = go (read_day f) refl (counted (read_day f) headers records first e) e
   where
-    go : (o : Option Day) → read_day f ≡ o → Counted (read_day f) headers records first → checked.Day headers records first ≡ checked_as o → 2 * headers + 4 * records ≤ 65536
+    go : (o : Option Day) → read_day f ≡ o → Counted (read_day f) headers records first → Some (checked_day headers records first) ≡ checked_as o → 2 * headers + 4 * records ≤ 65536
     go none p c e = let z : ◌≡◌ {A = ℕ} 0 1 = cc in absurd (omega arith)
     go (some day) p c e =
         let h : headers ≡ length day.headers = c.headers_are ∙ ap headers_in p in
@@ -207,7 +208,7 @@ counts_small f low headers records first e = go (read_day f) refl (counted (read
         let w = read_write f day low p in
         omega (arith, h, r, w.within.short, day_long day, first_place_lem day.headers, headers_few day.headers, records_few day.records)
 
-module _ (f : Bytes) (places : List ℕ) (headers records first : ℕ) (e : checked.Day headers records first ≡ checked_as (read_day f)) where
+module _ (f : Bytes) (places : List ℕ) (headers records first : ℕ) (e : Some (checked_day headers records first) ≡ checked_as (read_day f)) where
   abbrev both : Option Day → List ℕ
   both o = headers_listed o headers ++ records_listed o records
 
@@ -229,7 +230,7 @@ module _ (f : Bytes) (places : List ℕ) (headers records first : ℕ) (e : chec
   with_day : {A : Type 0} → ((day : Day) → read_day f ≡ some day → A) → A
   with_day {A} k = go (read_day f) refl e
     where
-      go : (o : Option Day) → read_day f ≡ o → checked.Day headers records first ≡ checked_as o → A
+      go : (o : Option Day) → read_day f ≡ o → Some (checked_day headers records first) ≡ checked_as o → A
       go none p e = let z : ◌≡◌ {A = ℕ} 0 1 = cc in absurd (omega arith)
       go (some day) p e = k day p
 

@@ -7,8 +7,6 @@ ghost use Rattle.laws.specs.Placing.{placed};
 ghost use Rattle.day_find.specs.Finds.{headers_in, records_in};
 ghost use Rattle.day_list.specs.Lists.{headers_listed, record_place, records_listed, listing_as};
 
-use day::Checked;
-
 // What listing a file answers: the number, and how many headers and records it listed.
 #[derive(Clone, Copy)]
 pub struct Listed {
@@ -65,30 +63,25 @@ fn list_records(file: &[u8], records: usize, first: usize, places: &mut [u64], b
 pub fn list(file: &[u8], places: &mut [u64]) -> Listed
     ensures { listing_as result places.new ≡ listing file.now places.old }
 {
-    let Checked::Day {
-        headers,
-        records,
-        first,
-    } = day::check(file)
-    else {
+    let Some(day) = day::check(file) else {
         return Listed {
             number: 9,
             headers: 0,
             records: 0,
         };
     };
-    if places.len() < 2 * headers + 4 * records {
+    if places.len() < 2 * day.headers + 4 * day.records {
         return Listed {
             number: 6,
             headers: 0,
             records: 0,
         };
     }
-    list_headers(file, headers, places);
-    list_records(file, records, first, places, 2 * headers);
+    list_headers(file, day.headers, places);
+    list_records(file, day.records, day.first, places, 2 * day.headers);
     Listed {
         number: 0,
-        headers,
-        records,
+        headers: day.headers,
+        records: day.records,
     }
 }

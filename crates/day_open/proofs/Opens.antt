@@ -11,19 +11,20 @@ use Rattle.paper.specs.DayFile.{Record, Day, place_of, header_place, header_of, 
 use Rattle.laws.proofs.DayPlaces.{header_stands}
 use Rattle.answer.specs.Outcomes.{outcome, outcome_at}
 use Rattle.answer.specs.declared.AnswerAt.{AnswerAt}
-use Rattle.day.specs.declared.Checked.TheVariants as checked
+use Rattle.std.specs.Prelude.{None, Some}
 use Rattle.day_find.specs.declared.Found.{Found}
-use Rattle.day.specs.Checks.{checked_as}
+use Rattle.day.specs.Checks.{checked_as, checked_day}
+use Rattle.day.proofs.Found.{counts_are}
 use Rattle.day_find.specs.Finds.{records_in, found_at, found_in}
 use Rattle.day_find.proofs.Finding.{Stands}
 
 -- ---- 9
 
-pub opens_unread : (key f : Bytes) (k : ℕ) (out : Bytes) → checked.Bad ≡ checked_as (read_day f) → refused 9 out ≡ opening_record key f k out
+pub opens_unread : (key f : Bytes) (k : ℕ) (out : Bytes) → None ≡ checked_as (read_day f) → refused 9 out ≡ opening_record key f k out
 unfolding opening_record open_in
 opens_unread key f k out e = go (read_day f) e
   where
-    go : (o : Option Day) → checked.Bad ≡ checked_as o → refused 9 out ≡ open_in key o k out
+    go : (o : Option Day) → None ≡ checked_as o → refused 9 out ≡ open_in key o k out
     go none e = refl
     go (some day) e = cc
 
@@ -33,11 +34,11 @@ elem_past (x ∷ l) zero p = absurd (omega arith)
 elem_past (x ∷ l) (suc k) p = elem_past l k (omega arith)
 
 -- the number of records that the check found
-pub checked_records : (o : Option Day) (headers records first : ℕ) → checked.Day headers records first ≡ checked_as o → records ≡ records_in o
+pub checked_records : (o : Option Day) (headers records first : ℕ) → Some (checked_day headers records first) ≡ checked_as o → records ≡ records_in o
 checked_records none headers records first e = cc
-checked_records (some day) headers records first e = cc
+checked_records (some day) headers records first e = (counts_are day headers records first e).1
 
-pub opens_absent : (key f : Bytes) (k : ℕ) (out : Bytes) (headers records first : ℕ) → checked.Day headers records first ≡ checked_as (read_day f) → records ≤ k
+pub opens_absent : (key f : Bytes) (k : ℕ) (out : Bytes) (headers records first : ℕ) → Some (checked_day headers records first) ≡ checked_as (read_day f) → records ≤ k
     → refused 9 out ≡ opening_record key f k out
 unfolding opening_record open_in open_record
 opens_absent key f k out headers records first e p = go (read_day f) (checked_records (read_day f) headers records first e)

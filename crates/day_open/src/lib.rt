@@ -6,39 +6,29 @@ ghost use Rattle.paper.specs.DayFile.{opening_record};
 ghost use Rattle.answer.specs.Outcomes.{outcome};
 
 use answer::{Answer, StretchBytes};
-use day::Checked;
 
 // Opening record k: 9 where the file does not read or has no such record, else opening as document 01 has it.
 pub fn open(key: &[u8], file: &[u8], k: usize, out: &mut [u8]) -> Answer
     ensures { outcome result out.new ≡ opening_record key.now file.now k out.old }
 {
-    let Checked::Day {
-        headers: _,
-        records,
-        first: _,
-    } = day::check(file)
-    else {
+    let Some(day) = day::check(file) else {
         return Answer {
             number: 9,
             length: 0,
         };
     };
-    if records <= k {
+    if day.records <= k {
         return Answer {
             number: 9,
             length: 0,
         };
     }
-    let f = day_find::find(file, records, k);
-    let header_start = f.header_start;
-    let header_end = f.header_end;
-    let start = f.start;
-    let end = f.end;
+    let f = day_find::find(file, day.records, k);
     let answer = record::open(
         key,
-        &file[header_start..header_end],
+        &file[f.header_start..f.header_end],
         StretchBytes(f.stretch),
-        &file[start..end],
+        &file[f.start..f.end],
         out,
     );
     Answer {

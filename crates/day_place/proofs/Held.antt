@@ -6,8 +6,9 @@ use native.Mathlib.Omega.{arith}
 use lib.ListN.{length}
 use Rattle.paper.specs.Strings.{Bytes}
 use Rattle.paper.specs.DayFile.{Day, first_place, read_day}
-use Rattle.day.specs.declared.Checked.TheVariants as checked
-use Rattle.day.specs.Checks.{checked_as}
+use Rattle.std.specs.Prelude.{Some}
+use Rattle.day.specs.Checks.{checked_as, checked_day}
+use Rattle.day.proofs.Found.{counts_are}
 
 pub record Counted (file : Bytes) (headers records first : ℕ) : Type 0 where
   pub day : Day
@@ -16,9 +17,9 @@ pub record Counted (file : Bytes) (headers records first : ℕ) : Type 0 where
   pub records_are : records ≡ length day.records
   pub first_is : first ≡ first_place day.headers
 
-pub counted : (file : Bytes) (headers records first : ℕ) → checked.Day headers records first ≡ checked_as (read_day file) → Counted file headers records first
+pub counted : (file : Bytes) (headers records first : ℕ) → Some (checked_day headers records first) ≡ checked_as (read_day file) → Counted file headers records first
 counted file headers records first e = go (read_day file) refl e
   where
-    go : (o : Option Day) → read_day file ≡ o → checked.Day headers records first ≡ checked_as o → Counted file headers records first
+    go : (o : Option Day) → read_day file ≡ o → Some (checked_day headers records first) ≡ checked_as o → Counted file headers records first
     go none p e = absurd (let z : ◌≡◌ {A = ℕ} 0 1 = cc in omega arith)
-    go (some day) p e = record { day = day; reads = p; headers_are = (cc); records_are = (cc); first_is = (cc) }
+    go (some day) p e = let c = counts_are day headers records first e in record { day = day; reads = p; headers_are = c.0; records_are = c.1; first_is = c.2 }

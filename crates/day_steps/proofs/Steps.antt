@@ -1,7 +1,8 @@
 -- One header and one record at a place of a file: each way in which the code leaves them is one case of the definition.
 use mathlib.Core.Bool.{Bool, true, false, ◌&&◌}
 use mathlib.Core.Option.{none}
-use Rattle.std.specs.Prelude.{Ok, Err}
+use Rattle.std.specs.Prelude.{Result, Ok, Err}
+use Rattle.std.specs.Result.{is_ok}
 use mathlib.Core.Path.{◌≡◌, refl, ap, sym, ◌∙◌}
 use Prim.Native.Nat.{ℕ, suc, ◌+◌, ◌-◌, ◌≤◌, ◌<◌}
 use native.Mathlib.Omega.{arith}
@@ -39,17 +40,21 @@ module _ (f : Bytes) (at : ℕ) (inside : at ≤ length f) where
     part_is = let own : size ≡ at + 2 + size - (at + 2) = omega arith in λ i. take (own i) (drop-drop 2 at f i)
 
     module _ (fits : size ≤ length f - (at + 2)) where
-      pub header_bad : (k : BadEntry) → Err k ≡ read_as (reading header_part) → (n : ℕ) → read_headers (suc n) (drop at f) ≡ none
-      header_bad k p n =
-          header_unread n (drop at f) size (sym sized) (omega (arith, rest_long)) (ap header_fits part_is ∙ bad_fits header_part k p)
+      fits_as : (r : Result ℕ BadEntry) → r ≡ read_as (reading header_part) → header_fits header_part ≡ is_ok r
+      fits_as (Ok k) p = reads_fits header_part k p
+      fits_as (Err k) p = bad_fits header_part k p
 
-      pub header_good : (k : ℕ) → Ok k ≡ read_as (reading header_part) → (n : ℕ)
+      pub header_bad : (r : Result ℕ BadEntry) → r ≡ read_as (reading header_part) → is_ok r ≡ false → (n : ℕ) → read_headers (suc n) (drop at f) ≡ none
+      header_bad r p q n =
+          header_unread n (drop at f) size (sym sized) (omega (arith, rest_long)) (ap header_fits part_is ∙ fits_as r p ∙ q)
+
+      pub header_good : (r : Result ℕ BadEntry) → r ≡ read_as (reading header_part) → is_ok r ≡ true → (n : ℕ)
           → read_headers (suc n) (drop at f) ≡ before header_part (read_headers n (drop (at + 2 + size) f))
-      header_good k p n =
+      header_good r p q n =
           let past : drop (2 + size) (drop at f) ≡ drop (at + 2 + size) f =
           drop-drop (2 + size) at f ∙ (let sum : at + (2 + size) ≡ at + 2 + size = omega arith in ap (λ (m : ℕ). drop m f) sum) in
           header_reads n (drop at f) size (sym sized) header_part (drop (at + 2 + size) f) part_is past (omega (arith, rest_long))
-          (reads_fits header_part k p)
+          (fits_as r p ∙ q)
 
 -- ---- A record
 

@@ -5,10 +5,6 @@ use Rattle.paper.specs.Strings.{Bytes}
 use Rattle.paper.specs.DayFile.{Record, value, before, read_headers, read_records}
 use Rattle.header.specs.declared.Place.{Place}
 use Rattle.day_steps.specs.declared.Entry.{Entry}
-use Rattle.day_steps.specs.declared.Step.{Step}
-use Rattle.day_steps.specs.declared.Step.TheVariants as step
-use Rattle.day_steps.specs.declared.Walk.{Walk}
-use Rattle.day_steps.specs.declared.Walk.TheVariants as walk
 
 -- ---- One header, one record
 
@@ -32,14 +28,14 @@ abbrev pub record_of : Bytes → Entry → Record
 record_of file e = record { header = e.header; stretch = e.stretch; sealed = take (e.end - e.start) (drop e.start file) }
 
 -- the record at a place, where there are so many headers
-abbrev pub RecordStep : Step → Bytes → ℕ → ℕ → Type 0
-RecordStep step.Bad file headers at = (n : ℕ) → read_records headers (suc n) (drop at file) ≡ none
-RecordStep (step.To e) file headers at =
+abbrev pub RecordStep : Option Entry → Bytes → ℕ → ℕ → Type 0
+RecordStep None file headers at = (n : ℕ) → read_records headers (suc n) (drop at file) ≡ none
+RecordStep (Some e) file headers at =
     (e ≡ entry_at file at) × (e.end ≤ length file) × ((n : ℕ) → read_records headers (suc n) (drop at file) ≡ before (record_of file e) (read_records headers n (drop e.end file)))
 
 -- ---- The sections
 
 -- n headers from place 4 on, and the place after them
-abbrev pub HeadersWalk : Walk → Bytes → ℕ → Type 0
-HeadersWalk walk.Bad file n = read_headers n (drop 4 file) ≡ none
-HeadersWalk (walk.To end) file n = (end ≤ length file) × ((hs : List Bytes) × (read_headers n (drop 4 file) ≡ some (hs, drop end file)))
+abbrev pub HeadersWalk : Option ℕ → Bytes → ℕ → Type 0
+HeadersWalk None file n = read_headers n (drop 4 file) ≡ none
+HeadersWalk (Some end) file n = (end ≤ length file) × ((hs : List Bytes) × (read_headers n (drop 4 file) ≡ some (hs, drop end file)))

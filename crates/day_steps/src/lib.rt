@@ -7,6 +7,8 @@ ghost use Rattle.day_steps.specs.Walks.{entry_at, HeaderStep, RecordStep, Header
 
 use header::Place;
 
+const LONGEST_STRETCH: u64 = 64;
+
 // A record: its header's number, its stretch, and where its sealed bytes start and end. The next record stands at their end.
 #[derive(Clone, Copy)]
 pub struct Entry {
@@ -16,21 +18,7 @@ pub struct Entry {
     pub end: usize,
 }
 
-// A record within the layout, or one that does not read.
-#[derive(Clone, Copy)]
-pub enum Step {
-    To(Entry),
-    Bad,
-}
-
-// A place that a walk came to, or that what it walks over does not read.
-#[derive(Clone, Copy)]
-pub enum Walk {
-    To(usize),
-    Bad,
-}
-
-// The header whose two length bytes stand at a place.
+// The header whose two length bytes stand at a place, where it reads.
 fn header_at(file: &[u8], at: usize) -> Option<Place>
     requires { at ≤ length file.now }
     ensures { HeaderStep result file.now at }
@@ -44,10 +32,11 @@ fn header_at(file: &[u8], at: usize) -> Option<Place>
         return None;
     }
     let end = start + size;
-    let Ok(_) = header::read(&file[start..end]) else {
-        return None;
-    };
-    Some(Place { start, end })
+    if header::read(&file[start..end]).is_ok() {
+        Some(Place { start, end })
+    } else {
+        None
+    }
 }
 
 // The fields of the record at a place of a file.
@@ -55,52 +44,39 @@ pub fn entry_at(file: &[u8], at: usize) -> Entry
     requires { (at + 7 ≤ length file.now) × (length file.now ≤ 65536) }
     ensures { (result ≡ entry_at file.now at) × (result.header < 65536) }
 {
-    let header = numbers::read::<2>(file, at);
-    let stretch = file[at + 2] as u64;
     let start = at + 7;
-    let end = start + numbers::read::<4>(file, at + 3);
     Entry {
-        header,
-        stretch,
+        header: numbers::read::<2>(file, at),
+        stretch: u64::from(file[at + 2]),
         start,
-        end,
+        end: start + numbers::read::<4>(file, at + 3),
     }
 }
 
-// The record at a place of a file that has so many headers.
-pub fn record_at(file: &[u8], headers: usize, at: usize) -> Step
+// The record at a place of a file that has so many headers, where it is within the layout.
+pub fn record_at(file: &[u8], headers: usize, at: usize) -> Option<Entry>
     requires { (at ≤ length file.now) × (length file.now ≤ 65536) }
     ensures { RecordStep result file.now headers at }
 {
     if file.len() - at < 7 {
-        return Step::Bad;
+        return None;
     }
     let e = entry_at(file, at);
-    if file.len() < e.end {
-        return Step::Bad;
+    if e.end <= file.len() && e.header < headers && e.stretch <= LONGEST_STRETCH {
+        Some(e)
+    } else {
+        None
     }
-    if headers <= e.header {
-        return Step::Bad;
-    }
-    if 64 < e.stretch {
-        return Step::Bad;
-    }
-    Step::To(e)
 }
 
-// The place after so many headers, each of which reads.
-pub fn headers_end(file: &[u8], headers: usize) -> Walk
+// The place after so many headers, where each of them reads.
+pub fn headers_end(file: &[u8], headers: usize) -> Option<usize>
     requires { 4 ≤ length file.now }
     ensures { HeadersWalk result file.now headers }
 {
-    let mut at: usize = 4;
-    let mut left = headers;
-    while 0 < left {
-        let Some(place) = header_at(file, at) else {
-            return Walk::Bad;
-        };
-        at = place.end;
-        left -= 1;
+    let mut at = 4;
+    for _ in 0..headers {
+        at = header_at(file, at)?.end;
     }
-    Walk::To(at)
+    Some(at)
 }

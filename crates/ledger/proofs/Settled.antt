@@ -17,8 +17,9 @@ use Rattle.paper.specs.Ledger as paper
 use Rattle.paper.specs.Ledger.{pauses_of, report_of, put, report_in}
 use Rattle.answer.specs.Outcomes.{outcome}
 use Rattle.laws.specs.Placing.{placed}
-use Rattle.day.specs.declared.Checked.TheVariants as checked
-use Rattle.day.specs.Checks.{checked_as}
+use Rattle.std.specs.Prelude.{None, Some}
+use Rattle.day.specs.Checks.{checked_as, checked_day}
+use Rattle.day.proofs.Found.{counts_are}
 use Rattle.day_find.specs.Finds.{headers_in}
 use Rattle.mean.specs.declared.Report.{Report}
 use Rattle.mean.specs.Reports.{meaning}
@@ -28,23 +29,23 @@ use Rattle.ledger.specs.Pauses.{pauses_in}
 use Rattle.ledger.specs.Reports.{report_as, reported_as}
 
 -- the number of headers that the check found
-pub checked_headers : (o : Option Day) (headers records first : ℕ) → checked.Day headers records first ≡ checked_as o → headers ≡ headers_in o
+pub checked_headers : (o : Option Day) (headers records first : ℕ) → Some (checked_day headers records first) ≡ checked_as o → headers ≡ headers_in o
 checked_headers none headers records first e = cc
-checked_headers (some day) headers records first e = cc
+checked_headers (some day) headers records first e = (counts_are day headers records first e).0
 
 -- ---- What the report is
 
 module _ (key : Bytes) where
   -- 9
-  pub unread : (o : Option Day) → checked.Bad ≡ checked_as o → told.Refused 9 ≡ reported_as key o
+  pub unread : (o : Option Day) → None ≡ checked_as o → told.Refused 9 ≡ reported_as key o
   unread none e = refl
   unread (some day) e = cc
 
-  module _ (o : Option Day) (headers records first : ℕ) (reads : checked.Day headers records first ≡ checked_as o) where
+  module _ (o : Option Day) (headers records first : ℕ) (reads : Some (checked_day headers records first) ≡ checked_as o) where
     by_key : (b : Bool) → eqb (length key) 48 ≡ b → reported_as key o ≡ (if not b then told.Refused 1 else told.Is (report_as (report_of (pauses_in key o))))
     by_key b e = go o reads
       where
-        go : (o : Option Day) → checked.Day headers records first ≡ checked_as o → reported_as key o ≡ (if not b then told.Refused 1 else told.Is (report_as (report_of (pauses_in key o))))
+        go : (o : Option Day) → Some (checked_day headers records first) ≡ checked_as o → reported_as key o ≡ (if not b then told.Refused 1 else told.Is (report_as (report_of (pauses_in key o))))
         go none r = cc
         go (some day) r = ap (λ (t : Bool). if not t then told.Refused 1 else told.Is (report_as (report_of (pauses_of key day)))) e
 

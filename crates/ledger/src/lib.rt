@@ -16,7 +16,6 @@ ghost use Rattle.ledger.specs.Pauses.{taken_as, pauses_in, pause_at, totals_of};
 ghost use Rattle.ledger.specs.Reports.{reported_as};
 
 use answer::{Answer, StretchBytes};
-use day::Checked;
 use mean::{Report, Totals};
 use pause_mark::Mark;
 use pause_unit::Read;
@@ -110,18 +109,13 @@ fn report_of(key: &[u8], file: &[u8], headers: usize, records: usize) -> Report
 fn reported(key: &[u8], file: &[u8]) -> Told
     ensures { result ≡ reported_as key.now (read_day file.now) }
 {
-    let Checked::Day {
-        headers,
-        records,
-        first: _,
-    } = day::check(file)
-    else {
+    let Some(day) = day::check(file) else {
         return Told::Refused(9);
     };
     if key.len() != 48 {
         return Told::Refused(1);
     }
-    Told::Is(report_of(key, file, headers, records))
+    Told::Is(report_of(key, file, day.headers, day.records))
 }
 
 // The report's line. Nothing is written before the answer is settled.

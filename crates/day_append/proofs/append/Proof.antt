@@ -16,7 +16,7 @@ abbrev start : tie.Else-buffer-size → tie.Start
 start c = c.before.before.before.before
 
 -- the file reads
-module _ (c : tie.In-Day) where
+module _ (c : tie.In-Some) where
   abbrev checked_file : tie.After-check
   checked_file = c.before
 
@@ -26,7 +26,7 @@ module _ (c : tie.In-Day) where
   abbrev asked : Asked
   asked =
       let a = (start inside).args in
-      let given = c.in-Day in
+      let given = c.in-Some.day in
       record {
         buffer = a.buffer.now;
         low = below_of 256 a.buffer.now (λ i p. omega (arith, inside.slice_known-1.given i));
@@ -39,7 +39,7 @@ module _ (c : tie.In-Day) where
         headers = given.headers;
         records = given.records;
         first = given.first;
-        counted = counted (take a.size a.buffer.now) given.headers given.records given.first (sym given.is ∙ checked_file.check.ensures);
+        counted = counted (take a.size a.buffer.now) given.headers given.records given.first (sym c.in-Some.is ∙ checked_file.check.ensures);
       }
 
 returns-then-buffer-size : tie.Need-returns-then-buffer-size
@@ -59,7 +59,7 @@ returns-in_default c =
 
 -- the append is within the layout
 module _ (g : tie.After-grown_size-n) where
-  abbrev told : tie.In-Day
+  abbrev told : tie.In-Some
   told = g.before.before.before
 
   abbrev q : Asked

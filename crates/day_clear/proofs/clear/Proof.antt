@@ -14,7 +14,7 @@ abbrev start : tie.Else-buffer-size → tie.Start
 start c = c.before.before.before
 
 -- the file reads
-module _ (c : tie.In-Day) where
+module _ (c : tie.In-Some) where
   abbrev checked_file : tie.After-check
   checked_file = c.before
 
@@ -25,16 +25,16 @@ module _ (c : tie.In-Day) where
   B = (start inside).args.buffer.now
 
   abbrev headers : ℕ
-  headers = c.in-Day.headers
+  headers = c.in-Some.day.headers
 
   abbrev records : ℕ
-  records = c.in-Day.records
+  records = c.in-Some.day.records
 
   abbrev first : ℕ
-  first = c.in-Day.first
+  first = c.in-Some.day.first
 
   found : Counted (take (start inside).args.size B) headers records first
-  found = counted (take (start inside).args.size B) headers records first (sym c.in-Day.is ∙ checked_file.check.ensures)
+  found = counted (take (start inside).args.size B) headers records first (sym c.in-Some.is ∙ checked_file.check.ensures)
 
 returns-then-buffer-size : tie.Need-returns-then-buffer-size
 returns-then-buffer-size c =

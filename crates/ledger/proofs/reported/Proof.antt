@@ -5,8 +5,8 @@ use Prim.Native.Nat.{ℕ}
 use borrow.Author.Rules.{rules}
 use Rattle.paper.specs.Strings.{Bytes}
 use Rattle.paper.specs.DayFile.{Day, read_day}
-use Rattle.day.specs.declared.Checked.TheVariants as checked
-use Rattle.day.specs.Checks.{checked_as}
+use Rattle.std.specs.Prelude.{Some}
+use Rattle.day.specs.Checks.{checked_as, checked_day}
 use Rattle.day_open.proofs.Opens.{checked_records}
 use Rattle.ledger.proofs.Settled.{checked_headers, unread, no_key, is_report}
 use Rattle.ledger.proofs.reported.Statement.{statement}
@@ -19,8 +19,8 @@ abbrev start : tie.After-check → tie.Start
 start c = (known c).before
 
 -- the file reads
-module _ (c : tie.In-Day) where
-  abbrev found : tie.In-Day
+module _ (c : tie.In-Some) where
+  abbrev found : tie.In-Some
   found = c
 
   abbrev checked_file : tie.After-check
@@ -33,16 +33,16 @@ module _ (c : tie.In-Day) where
   o = read_day (start checked_file).args.file.now
 
   abbrev headers : ℕ
-  headers = found.in-Day.headers
+  headers = found.in-Some.day.headers
 
   abbrev records : ℕ
-  records = found.in-Day.records
+  records = found.in-Some.day.records
 
   abbrev first : ℕ
-  first = found.in-Day.first
+  first = found.in-Some.day.first
 
-  reads : checked.Day headers records first ≡ checked_as o
-  reads = sym found.in-Day.is ∙ checked_file.check.ensures
+  reads : Some (checked_day headers records first) ≡ checked_as o
+  reads = sym found.in-Some.is ∙ checked_file.check.ensures
 
 returns-in_default : tie.Need-returns-in_default
 returns-in_default c =
