@@ -1,15 +1,12 @@
 -- Arrays that are made entry by entry: by `array::from_fn`, and by a loop.
 use Rattle.std.proofs.Common.{◌≡◌, ℕ, zero, suc, ◌+◌, ◌<◌, ◌≤◌, List, map, length, get_or, set, length-set, ap, sym, ◌∙◌, arith}
 use Rattle.std.specs.List.{range_with_len}
-use Rattle.std.proofs.lemmas.List.{length-map}
 use Rattle.std.proofs.lemmas.List.Edits.{fill_by_more}
 use Rattle.std.proofs.lemmas.List.FromFn.{fill_by_all}
-use lib.ListN.{get_or-map}
-use lib.Seq.{ext_get_or}
 use denote.Param.Members.{Mut, Called}
 use Rattle.std.specs.Array.{IsFromFnResult, IsFromFnResultFrom}
 use Rattle.paper.specs.Strings.{tab}
-use Rattle.laws.proofs.Tables.{get_or_tab, length_tab, tab_entries}
+use Rattle.laws.proofs.Tables.{tab_entries}
 use Rattle.laws.proofs.WordBits.{tab_same}
 
 -- ---- `from_fn`, where each call keeps what is known of the closure and gives f of its index
@@ -26,15 +23,6 @@ module _ {F B : Type 0} {g : Mut F (ℕ × Unit {0}) B} {n : ℕ} (K : F → Typ
 
   pub made : {s : F} {ys : List B} → K s → IsFromFnResult g s ys n → (k : ℕ) (d : B) → k < n → get_or ys k d ≡ f k
   made {s} {ys} known r k d h = made_from s ys 0 n k k d (omega arith) known r.each h (omega arith)
-
-  -- an array of anything is f mapped over the indices
-  pub made_map : {s : F} {ys : List B} → K s → IsFromFnResult g s ys n → ys ≡ map f (tab n (λ k. k))
-  made_map {s} {ys} known r =
-      let long : length (map f (tab n (λ k. k))) ≡ n = length-map (tab n (λ k. k)) f ∙ length_tab n (λ k. k) in
-      ext_get_or (f 0) ys (map f (tab n (λ k. k))) (r.long ∙ sym long)
-      (λ k h.
-      let below : k < n = omega (arith, r.long) in
-      made known r k (f 0) below ∙ sym (get_or-map f (tab n (λ k. k)) k 0 ∙ ap f (get_or_tab n k (λ k. k) below)))
 
 -- an array of numbers is the table of them
 module _ {F : Type 0} {g : Mut F (ℕ × Unit {0}) ℕ} {n : ℕ} (K : F → Type 0) (f : ℕ → ℕ)
