@@ -9,12 +9,14 @@ use lib.Bits.{bit_xor, bit_and, bit_or, xor_block, xor_shr, xor_zero_r, and_zero
 use lib.Dec.{ltb}
 use lib.ListN.{get_or}
 use Rattle.std.specs.Prelude.{if◌then◌else◌}
-use Rattle.paper.specs.Strings.{Below, tab_from, tab, zip, ◌⊕◌}
+use Rattle.paper.specs.Strings.{Below, Digits, tab_from, tab, zip, ◌⊕◌}
 use Rattle.paper.specs.Fips197.{bit, xtime, MixColumns}
 use Rattle.laws.proofs.Round.{xtime_xor, mix_columns}
 use Rattle.laws.proofs.Tables.{get_or_tab}
 use Rattle.laws.proofs.WordBits.{number, bit_lt, bit_past, bit_xor_lem, bit_and_lem, and_one, bit_down, bit_up, bit_number, number_bits_lem, tab_same}
 use Rattle.laws.proofs.Xor.{xor_assoc}
+use Rattle.columns.specs.Columns.{columns_of, block_of}
+use Rattle.columns.proofs.Conversions.{columns_sum}
 use Rattle.circuit.specs.Planes.{lane}
 use Rattle.sub_bytes.specs.Planes.{place, plane_bytes, planes_of, crossed_bytes}
 use Rattle.aes.specs.Steps.{xor_words, below_word, below_words, doubled_words}
@@ -309,3 +311,8 @@ module _ (t : List ℕ) where
 pub key_added : (m k : List ℕ) → crossed_bytes (xor_words m k) ≡ crossed_bytes m ⊕ crossed_bytes k
 unfolding crossed_bytes plane_bytes ◌⊕◌ zip
 key_added m k = tab_same 0 16 (λ i. byte_at (xor_words m k) (place i)) (λ i. bit_xor (byte_at m (place i)) (byte_at k (place i))) (λ i h. xor_at m k (place i))
+
+-- ---- The sum of columns is that of crossed words
+
+pub summed_words : {r : List ℕ} (a b : List ℕ) → Digits 32 4 a → Digits 32 4 b → r ≡ columns_of (block_of a ⊕ block_of b) → r ≡ xor_words a b
+summed_words a b p q e = e ∙ sym (columns_sum a b p q)

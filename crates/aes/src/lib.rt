@@ -4,13 +4,14 @@
 
 ghost use Rattle.std.specs.Prelude.{◌≡◌, ◌≤◌, length};
 ghost use Rattle.paper.specs.Fips197.{bit, MixColumns};
-ghost use Rattle.paper.specs.Section7.{aesenc, AES, AES4, AES10};
+ghost use Rattle.paper.specs.Section7.{aesenc, AES};
 ghost use Rattle.laws.proofs.WordBits.{word_of};
 ghost use Rattle.columns.specs.Columns.{columns_of, block_of};
 ghost use Rattle.sub_bytes.specs.Planes.{crossed_bytes};
-ghost use Rattle.aes.specs.Steps.{picked_bit, shifted_word, xor_words, below_words, doubled_words, keys_of};
+ghost use Rattle.aes.specs.Steps.{picked_bit, shifted_word, below_words, doubled_words, keys_of};
 
 use columns::Columns;
+use std::array::from_fn;
 
 // The bits of b where m has a 1, and those of a elsewhere.
 fn picked(a: u32, b: u32, m: u32) -> u32
@@ -29,23 +30,11 @@ fn shifted(x: u32) -> u32
     picked(c, b << 2, 0x0000_cccc)
 }
 
-// The sum of crossed words.
-fn xor(a: Columns, b: Columns) -> Columns
-    ensures { result ≡ xor_words a b }
-{
-    [a[0] ^ b[0], a[1] ^ b[1], a[2] ^ b[2], a[3] ^ b[3]]
-}
-
 // The row below, in the place of each row.
 fn below(t: Columns) -> Columns
     ensures { result ≡ below_words t }
 {
-    [
-        (t[0] << 8) | (t[0] >> 24),
-        (t[1] << 8) | (t[1] >> 24),
-        (t[2] << 8) | (t[2] >> 24),
-        (t[3] << 8) | (t[3] >> 24),
-    ]
+    from_fn(|w| t[w].rotate_left(8))
 }
 
 // Each byte by 2: bit 7, the high half-bytes of the last word, comes into bits 0, 1, 3 and 4.
@@ -65,75 +54,37 @@ fn doubled(p: Columns) -> Columns
 fn mixed(t: Columns) -> Columns
     ensures { crossed_bytes result ≡ MixColumns (crossed_bytes t) }
 {
-    let under = below(t);
-    let pairs = xor(t, under);
-    let twice = doubled(pairs);
-    let two_below = below(pairs);
-    let triples = xor(t, two_below);
-    let three_below = below(triples);
-    xor(twice, three_below)
+    let pairs = columns::xor(t, below(t));
+    let triples = columns::xor(t, below(pairs));
+    columns::xor(doubled(pairs), below(triples))
 }
 
 // One round: SubBytes, ShiftRows, MixColumns, and the key added.
-fn aesenc(s: Columns, k: Columns) -> Columns
-    ensures { crossed_bytes result ≡ aesenc (crossed_bytes s) (crossed_bytes k) }
+fn aesenc(s: Columns, k: &Columns) -> Columns
+    ensures { crossed_bytes result ≡ aesenc (crossed_bytes s) (crossed_bytes k.now) }
 {
     let t = sub_bytes::sub_bytes(s);
-    let a = shifted(t[0]);
-    let b = shifted(t[1]);
-    let c = shifted(t[2]);
-    let d = shifted(t[3]);
-    let m = mixed([a, b, c, d]);
-    xor(m, k)
+    let m = mixed(from_fn(|w| shifted(t[w])));
+    columns::xor(m, *k)
 }
 
-// The first key added, and a round for each that follows it. AES4 and AES10 share this one loop, so that the compiler puts the round into
-// its body and the state stays in registers. The first key is columns, for it is added before the state is crossed; the others are crossed
-// already: a caller has them for many blocks.
-fn rounds(k: &[Columns], x: Columns) -> Columns
+// The first key added, and a round for each that follows it: AES4 under five keys, AES10 under eleven. Both share this one loop, so that the
+// compiler puts the round into its body and the state stays in registers. The first key is columns, for it is added before the state is
+// crossed; the others are crossed already: a caller has them for many blocks. The block is columns and stays so: a caller that goes on from
+// it spares both conversions.
+pub fn aes_columns(k: &[Columns], x: Columns) -> Columns
     requires { 1 ≤ length k.now }
     ensures { result ≡ columns_of (AES (keys_of k.now) (block_of x)) }
 {
-    let first = k[0];
-    let sum = columns::xor(x, first);
-    let mut s = sub_bytes::crossed(sum);
-    let mut i: usize = 1;
-    while i < k.len() {
-        let key = k[i];
-        let y = aesenc(s, key);
-        s = y;
-        i += 1;
-    }
-    sub_bytes::crossed(s)
+    let first = sub_bytes::crossed(columns::xor(x, k[0]));
+    let last = k[1..].iter().fold(first, aesenc);
+    sub_bytes::crossed(last)
 }
 
 // The same of a block of bytes.
-fn rounds_of_bytes(k: &[Columns], x: [u8; 16]) -> [u8; 16]
+pub fn aes(k: &[Columns], x: [u8; 16]) -> [u8; 16]
     requires { 1 ≤ length k.now }
     ensures { result ≡ AES (keys_of k.now) x }
 {
-    let text = columns::of_block(x);
-    let s = rounds(k, text);
-    columns::to_block(s)
-}
-
-// AES4 under five keys.
-pub fn aes4(k: [Columns; 5], x: [u8; 16]) -> [u8; 16]
-    ensures { result ≡ AES4 (keys_of k) x }
-{
-    rounds_of_bytes(&k, x)
-}
-
-// AES4 of a block that is columns and stays so: a caller that goes on from it spares both conversions.
-pub fn aes4_columns(k: &[Columns; 5], x: Columns) -> Columns
-    ensures { result ≡ columns_of (AES4 (keys_of k.now) (block_of x)) }
-{
-    rounds(k, x)
-}
-
-// AES10 under eleven keys.
-pub fn aes10(k: [Columns; 11], x: [u8; 16]) -> [u8; 16]
-    ensures { result ≡ AES10 (keys_of k) x }
-{
-    rounds_of_bytes(&k, x)
+    columns::to_block(aes_columns(k, columns::of_block(x)))
 }

@@ -48,8 +48,7 @@ use Rattle.columns.proofs.xor.Reads as columns-xor
 use Rattle.columns.proofs.double.Reads as columns-double
 use Rattle.sub_bytes.proofs.sub_bytes.Reads as sub-bytes-sub-bytes
 use Rattle.sub_bytes.proofs.crossed.Reads as sub-bytes-crossed
-use Rattle.aes.proofs.aes4.Reads as aes-aes4
-use Rattle.aes.proofs.aes10.Reads as aes-aes10
+use Rattle.aes.proofs.aes.Reads as aes-aes
 use Rattle.multiples.proofs.multiples.Reads as multiples-multiples
 use Rattle.multiples.proofs.multiple.Reads as multiples-multiple
 use Rattle.pairs.proofs.Pair.table.Reads as pairs-table
@@ -82,7 +81,7 @@ use Rattle.rows.proofs.turned.Reads as rows-turned
 use Rattle.rows.proofs.mixed.Reads as rows-mixed
 use Rattle.sixteen.proofs.round.Reads as sixteen-round
 use Rattle.sixteen.proofs.rounds4.Reads as sixteen-rounds4
-use Rattle.aes.proofs.aes4_columns.Reads as aes-aes4-columns
+use Rattle.aes.proofs.aes_columns.Reads as aes-aes-columns
 use Rattle.groups.proofs.xor.Reads as groups-xor
 use Rattle.groups.proofs.load.Reads as groups-load
 use Rattle.groups.proofs.sum.Reads as groups-sum
@@ -334,14 +333,11 @@ sub_bytes_crossed_determined κs a z w e f p q = one p q
 
 -- ---- The AES round: `aes`
 
-pub aes_aes4_determined : (κs : _) (a : _) (z w : _) (e f : _) → aes-aes4.Learnt κs a z e → aes-aes4.Learnt κs a w f → z ≡ w
-aes_aes4_determined κs a z w e f p q = one p q
+pub aes_aes_determined : (κs : _) (a : _) (z w : _) (e f : _) → aes-aes.Learnt κs a z e → aes-aes.Learnt κs a w f → z ≡ w
+aes_aes_determined κs a z w e f p q = one p q
 
-pub aes_aes10_determined : (κs : _) (a : _) (z w : _) (e f : _) → aes-aes10.Learnt κs a z e → aes-aes10.Learnt κs a w f → z ≡ w
-aes_aes10_determined κs a z w e f p q = one p q
-
-pub aes_aes4_columns_determined : (κs : _) (a : _) (z w : _) (e f : _) → aes-aes4-columns.Learnt κs a z e → aes-aes4-columns.Learnt κs a w f → z ≡ w
-aes_aes4_columns_determined κs a z w e f p q = one p q
+pub aes_aes_columns_determined : (κs : _) (a : _) (z w : _) (e f : _) → aes-aes-columns.Learnt κs a z e → aes-aes-columns.Learnt κs a w f → z ≡ w
+aes_aes_columns_determined κs a z w e f p q = one p q
 
 -- ---- Multiples of a block: `multiples`
 

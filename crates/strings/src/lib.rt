@@ -42,13 +42,10 @@ fn one_by_one(k: tbc::Base, g: &Group, n: usize) -> [u8; 16]
 {
     let keys = tbc::keys0(k, [0u32; 4]);
     let mut total = [0u8; 16];
-    let mut i: usize = 0;
-    while i < n {
-        let x = columns::to_block(g[i]);
-        let e = aes::aes4(keys, x);
-        let more = block::xor(total, e);
+    for i in 0..n {
+        // An array that a call gives needs a name before it is stored: else the prover does not cover the loop.
+        let more = block::xor(total, aes::aes(&keys, columns::to_block(g[i])));
         total = more;
-        i += 1;
     }
     total
 }

@@ -101,9 +101,9 @@ pub fn e(k: Base, m: &[u32; 32], p: Pair, x: [u8; 16]) -> [u8; 16]
 {
     let of_j = multiples::multiple(m, p.2);
     if p.0 {
-        aes::aes10(keys10(k, of_j), x)
+        aes::aes(&keys10(k, of_j), x)
     } else {
-        aes::aes4(keys0(k, of_j), x)
+        aes::aes(&keys0(k, of_j), x)
     }
 }
 
@@ -114,8 +114,8 @@ pub fn e_running(k: Base, m: &[u32; 32], p: Pair, power: Columns, x: [u8; 16]) -
 {
     let mask = masks::running_mask(m, p.2, power);
     if p.1 == 1 {
-        aes::aes4(keys1(k, mask), x)
+        aes::aes(&keys1(k, mask), x)
     } else {
-        aes::aes4(keys2(k, mask), x)
+        aes::aes(&keys2(k, mask), x)
     }
 }

@@ -16,28 +16,21 @@ use halves::Halves;
 fn rounds(n: usize) -> u32
     ensures { result ≡ tiny_rounds (8 * n) }
 {
-    if n == 1 {
-        return 24;
+    match n {
+        1 => 24,
+        2 => 16,
+        0..16 => 10,
+        _ => 8,
     }
-    if n == 2 {
-        return 16;
-    }
-    if n < 16 {
-        return 10;
-    }
-    8
 }
 
 // Line 216: turn i. Its number goes into the last column alone.
 fn turn(keys: &[Columns; 5], bits: Columns, i: u32, s: Halves) -> Halves
     ensures { blocks_of result ≡ block_turn (keys_of keys.now) (block_of bits) i (blocks_of s) }
 {
-    let l = s.l;
-    let r = s.r;
-    let x = columns::xor(r, [0, 0, 0, i]);
-    let y = aes::aes4_columns(keys, x);
-    let kept = halves::and(y, bits);
-    let sum = columns::xor(l, kept);
+    let Halves { l, r } = s;
+    let y = aes::aes_columns(keys, columns::xor(r, [0, 0, 0, i]));
+    let sum = columns::xor(l, halves::and(y, bits));
     Halves { l: r, r: sum }
 }
 
@@ -45,13 +38,9 @@ fn turn(keys: &[Columns; 5], bits: Columns, i: u32, s: Halves) -> Halves
 pub fn turns_up(keys: &[Columns; 5], bits: Columns, n: usize, s: Halves) -> Halves
     ensures { blocks_of result ≡ block_turns_up (keys_of keys.now) (block_of bits) (tiny_rounds (8 * n)) (blocks_of s) }
 {
-    let count = rounds(n);
     let mut t = s;
-    let mut i: u32 = 0;
-    while i < count {
-        let next = turn(keys, bits, i, t);
-        t = next;
-        i += 1;
+    for i in 0..rounds(n) {
+        t = turn(keys, bits, i, t);
     }
     t
 }
@@ -61,11 +50,8 @@ pub fn turns_down(keys: &[Columns; 5], bits: Columns, n: usize, s: Halves) -> Ha
     ensures { blocks_of result ≡ block_turns_down (keys_of keys.now) (block_of bits) (tiny_rounds (8 * n)) (blocks_of s) }
 {
     let mut t = s;
-    let mut left = rounds(n);
-    while 0 < left {
-        left -= 1;
-        let next = turn(keys, bits, left, t);
-        t = next;
+    for i in (0..rounds(n)).rev() {
+        t = turn(keys, bits, i, t);
     }
     t
 }

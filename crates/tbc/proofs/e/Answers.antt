@@ -16,7 +16,7 @@ returns-then-p c =
     let K = base a.k in
     let small = plain_small (row_of a.p) a.p.2 c.requires.0 in
     under_read a.k a.m.now c.requires.1 (drop 1 (K10 K)) c.keys10.result c.multiple-of_j.result (array_bytes 16 _ _ c.well_formed.1.1.1.0)
-    c.keys10.ensures c.aes10.ensures a.p.2 small c.multiple-of_j.ensures
+    c.keys10.ensures c.aes.ensures a.p.2 small c.multiple-of_j.ensures
     ∙ sym (in_minus1 K a.x a.p c.if-p.true ∙ E_404 K a.x a.p.2)
 
 pub returns-else-p : goal.returns-else-p
@@ -26,5 +26,5 @@ returns-else-p c =
     let small = plain_small (row_of a.p) a.p.2 c.requires.0 in
     let keys = ap keys_of c.keys0.ensures ∙ first_masked a.k c.multiple-of_j.result in
     under_read a.k a.m.now c.requires.1 (drop 1 (k0 K)) c.keys0.result c.multiple-of_j.result (array_bytes 16 _ _ c.well_formed.1.1.1.0)
-    keys c.aes4.ensures a.p.2 small c.multiple-of_j.ensures
+    keys c.aes-else-p.ensures a.p.2 small c.multiple-of_j.ensures
     ∙ sym (in_row K a.x a.p 0 c.if-p.false (in_row_0 a.p c.requires.0 c.if-p.false) ∙ E_405 K a.x a.p.2)

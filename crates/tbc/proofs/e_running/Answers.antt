@@ -14,7 +14,7 @@ returns-then-p-eq1 c =
     let K = base a.k in
     let run = c.requires.0 in
     under_running a.k a.m.now c.requires.2 (drop 1 (k1 K)) c.keys1.result c.running_mask-mask.result (array_bytes 16 _ _ c.well_formed.1.1.1.1.0)
-    c.keys1.ensures c.aes4.ensures a.p a.power run c.running_mask-mask.ensures
+    c.keys1.ensures c.aes.ensures a.p a.power run c.running_mask-mask.ensures
     ∙ sym (in_row K a.x a.p 1 run.plus c.if-p-eq1.true ∙ E_406_1 K a.x a.p.2)
 
 pub returns-else-p-eq1 : goal.returns-else-p-eq1
@@ -24,5 +24,5 @@ returns-else-p-eq1 c =
     let run = c.requires.0 in
     let second : a.p.1 ≡ 2 = omega (arith, run.counted) in
     under_running a.k a.m.now c.requires.2 (drop 1 (k2 K)) c.keys2.result c.running_mask-mask.result (array_bytes 16 _ _ c.well_formed.1.1.1.1.0)
-    c.keys2.ensures c.aes4-else-p-eq1.ensures a.p a.power run c.running_mask-mask.ensures
+    c.keys2.ensures c.aes-else-p-eq1.ensures a.p a.power run c.running_mask-mask.ensures
     ∙ sym (in_row K a.x a.p 2 run.plus second ∙ E_406_2 K a.x a.p.2)
