@@ -1,6 +1,6 @@
 -- A table of bits: what setting one changes, and the count of those before a number.
 use mathlib.Core.Bool.{Bool, true, false}
-use mathlib.Core.List.{List, [], ◌∷◌}
+use mathlib.Core.List.{List}
 use mathlib.Core.Path.{◌≡◌, refl, ap, ap₂, sym, ◌∙◌}
 use Prim.Native.Nat.{ℕ, zero, suc, ◌+◌, ◌*◌, ◌/◌, ◌%◌, ◌^◌, ◌≤◌, ◌<◌}
 use native.Mathlib.Nat.{zero-div}
@@ -9,7 +9,7 @@ use native.Mathlib.Omega.{arith}
 use borrow.Author.Tests.{eqb-true, eqb-false, eq-eqb, ne_eqb, ltb-true, ltb-false}
 use lib.Bits.{bit_or, or_shr, or_mod, or_zero_r}
 use lib.Dec.{eqb, ltb}
-use lib.ListN.{length, get_or, set, replicate, length-set, get_or-replicate}
+use lib.ListN.{length, get_or, set, replicate, get_or-replicate}
 use lib.Seq.{get_or-set_same, get_or-set_other}
 use Rattle.std.specs.Prelude.{if◌then◌else◌}
 use Rattle.paper.specs.DayEdits.{count_below}
@@ -29,14 +29,7 @@ eight P a b c d e f g h (suc (suc (suc (suc (suc (suc zero)))))) p = g
 eight P a b c d e f g h (suc (suc (suc (suc (suc (suc (suc zero))))))) p = h
 eight P a b c d e f g h (suc (suc (suc (suc (suc (suc (suc (suc i)))))))) p = absurd (omega arith)
 
-pub weight_is : (i : ℕ) → i < 8 → get_or (1 ∷ 2 ∷ 4 ∷ 8 ∷ 16 ∷ 32 ∷ 64 ∷ 128 ∷ []) i 0 ≡ 2 ^ i
-weight_is = eight (λ i. get_or (1 ∷ 2 ∷ 4 ∷ 8 ∷ 16 ∷ 32 ∷ 64 ∷ 128 ∷ []) i 0 ≡ 2 ^ i) refl refl refl refl refl refl refl refl
-
-pub weight_some : (i : ℕ) → i < 8 → 1 ≤ get_or (1 ∷ 2 ∷ 4 ∷ 8 ∷ 16 ∷ 32 ∷ 64 ∷ 128 ∷ []) i 0
-weight_some =
-    eight (λ i. 1 ≤ get_or (1 ∷ 2 ∷ 4 ∷ 8 ∷ 16 ∷ 32 ∷ 64 ∷ 128 ∷ []) i 0) (omega arith) (omega arith) (omega arith) (omega arith) (omega arith) (omega arith) (omega arith) (omega arith)
-
--- the weights have one bit each
+-- each place's weight has one bit
 abbrev Own : ℕ → ℕ → Type 0
 Own i j = 2 ^ i / 2 ^ j % 2 ≡ (if eqb i j then 1 else 0)
 
@@ -119,13 +112,6 @@ bits_count t p m h zero q = refl
 bits_count t p m h (suc n) q = ap₂ ◌+◌ (bits_count t p m h n (omega arith)) (h n (omega arith))
 
 -- ---- Counts by groups
-
-pub noted_long : (before before' : List ℕ) (n r : ℕ) → before' ≡ (if eqb (n % 64) 0 then set before (n / 64) r else before) → length before' ≡ length before
-noted_long before before' n r is = ap length is ∙ go (eqb (n % 64) 0)
-  where
-    go : (b : Bool) → length (if b then set before (n / 64) r else before) ≡ length before
-    go true = length-set before (n / 64) r
-    go false = refl
 
 pub tallied_none : (before t : List ℕ) → Tallied before t 0
 tallied_none before t k p = absurd (omega arith)

@@ -3,13 +3,14 @@ use mathlib.Core.Bool.{Bool, true, false, ◌&&◌, ◌||◌, not}
 use mathlib.Core.List.{List, [], ◌++◌}
 use mathlib.Core.Path.{◌≡◌, refl, ap, sym, ◌∙◌}
 use Prim.Native.Nat.{ℕ, zero, suc, ◌+◌, ◌-◌, ◌*◌, ◌≤◌, ◌<◌}
+use native.Mathlib.Nat.{add-zero}
 use native.Mathlib.Numerals.{add-one}
 use native.Mathlib.Omega.{arith}
-use borrow.Author.Tests.{eq-eqb, ne_eqb}
 use lib.Dec.{eqb}
 use lib.ListN.{length, take, drop, replicate, length-append, length-drop, length-set}
 use lib.Seq.{length-take-le}
 use Rattle.std.specs.Prelude.{if◌then◌else◌}
+use Rattle.std.specs.Int.{from_bool}
 use Rattle.paper.specs.Strings.{Bytes, digits}
 use Rattle.paper.specs.DayFile.{value}
 use Rattle.paper.specs.DayEdits.{count_below, has, keeps}
@@ -61,6 +62,11 @@ both_counted dropped j k true e p =
 both_counted dropped j k false e p =
     omega (arith, p, ap (count_below (keeps dropped)) (add-one k), count_taken (keeps dropped) k (ap not e))
 
+-- one entry more of the list is passed, where it names the record
+pub stepped : (j r : ℕ) (c : Bool) → r ≡ from_bool c → j + r ≡ (if c then j + 1 else j)
+stepped j r true e = ap (λ (n : ℕ). j + n) e
+stepped j r false e = ap (λ (n : ℕ). j + n) e ∙ add-zero j
+
 -- ---- How far a walk over the records is
 
 module _ (f : Bytes) (first records k : ℕ) (w : Walkable f first records) (inside : k < records) where
@@ -75,12 +81,6 @@ module _ (f : Bytes) (first records k : ℕ) (w : Walkable f first records) (ins
       let left = records - (k + 1) in
       let all : k + 1 + left ≡ records = omega arith in
       omega (arith, rises f first (k + 1) left, ap (end_of f first) all, w.ends)
-
-  pub count_small : k < 65536
-  unfolding end_of
-  count_small =
-      let here : 0 + k ≡ k = omega arith in
-      omega (arith, rises f first 0 k, ap (end_of f first) here, record_room, w.short)
 
 pub first_inside : (f : Bytes) (first records : ℕ) → Walkable f first records → first ≤ length f
 unfolding end_of
@@ -103,12 +103,6 @@ pub heads_more : (f : Bytes) (t : List ℕ) (i : ℕ)
     → heads_kept f t (i + 1) ≡ heads_kept f t i ++ kept_part (bit_of t i) (take (2 + value (take 2 (drop (head_end f i) f))) (drop (head_end f i) f))
 unfolding heads_kept
 heads_more f t i = ap (heads_kept f t) (add-one i)
-
-pub part_set : (set : ℕ) (X : Bytes) → set ≡ 1 → kept_part set X ≡ X
-part_set set X e = ap (λ (b : Bool). if b then X else []) (eq-eqb set 1 e)
-
-pub part_unset : (set : ℕ) (X : Bytes) → (set ≡ 1 → ⊥) → kept_part set X ≡ []
-part_unset set X e = ap (λ (b : Bool). if b then X else []) (ne_eqb set 1 e)
 
 pub part_short : (set : ℕ) (X : Bytes) → length (kept_part set X) ≤ length X
 part_short set X = go (eqb set 1)

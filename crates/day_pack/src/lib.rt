@@ -11,40 +11,12 @@ ghost use Rattle.day_pack.specs.Bits.{bit_of, with_bit, bits_below, Tallied, Cou
 ghost use Rattle.day_pack.specs.Kept.{next_is, Walkable, MarksOf, CountedAll, kept_part, head_end, heads_kept, record_part, records_kept, Packed};
 ghost use Rattle.day_pack.specs.Cleared.{Clearable, cleared_file, cleared_buffer};
 
-const WEIGHTS: [u8; 8] = [1, 2, 4, 8, 16, 32, 64, 128];
-
-// A byte as a number that sums can be made of.
-fn as_number(x: u8) -> usize
-    ensures { result ≡ x }
-{
-    x as usize
-}
-
-// The value of a bit by its place in a byte.
-fn weight(i: usize) -> u8
-    requires { i < 8 }
-    ensures { (result ≡ 2 ^ i) × (1 ≤ result) }
-{
-    WEIGHTS[i]
-}
-
 // Bit n of a table: 0 or 1. There is room for 13,104 bits: a header takes five bytes or more of a file's 65,536.
 fn bit(table: &[u8; 1638], n: usize) -> usize
     requires { n < 13104 }
     ensures { (result ≡ bit_of table.now n) × (result ≤ 1) }
 {
-    let w = weight(n % 8);
-    as_number(table[n / 8] / w % 2)
-}
-
-// A count noted for the group that starts with bit n, where one does.
-fn note(before: &mut [usize; 205], n: usize, r: usize)
-    requires { n < 13104 }
-    ensures { before.new ≡ (if eqb (n % 64) 0 then set before.old (n / 64) r else before.old) }
-{
-    if n % 64 == 0 {
-        before[n / 64] = r;
-    }
+    usize::from((table[n / 8] >> (n % 8)) % 2)
 }
 
 // How many of the first n bits are set. How many before each group of 64 among them is noted in a table of zeros.
@@ -52,12 +24,12 @@ fn tally(table: &[u8; 1638], n: usize, before: &mut [usize; 205]) -> usize
     requires { (n ≤ 13104) × (before.old ≡ replicate 205 0) }
     ensures { (result ≡ bits_below table.now n) × Tallied before.new table.now n }
 {
-    let mut r: usize = 0;
-    let mut i: usize = 0;
-    while i < n {
-        note(before, i, r);
+    let mut r = 0;
+    for i in 0..n {
+        if i % 64 == 0 {
+            before[i / 64] = r;
+        }
         r += bit(table, i);
-        i += 1;
     }
     r
 }
@@ -68,10 +40,8 @@ fn count(table: &[u8; 1638], before: &[usize; 205], n: usize) -> usize
     ensures { result ≡ bits_below table.now n }
 {
     let mut r = before[n / 64];
-    let mut i = n / 64 * 64;
-    while i < n {
+    for i in n / 64 * 64..n {
         r += bit(table, i);
-        i += 1;
     }
     r
 }
@@ -81,32 +51,16 @@ fn mark(table: &mut [u8; 1638], n: usize, leave: bool)
     requires { n < 13104 }
     ensures { table.new ≡ (if leave then table.old else with_bit table.old n) }
 {
-    if leave {
-        return;
+    if !leave {
+        table[n / 8] |= 1 << (n % 8);
     }
-    let w = weight(n % 8);
-    table[n / 8] = table[n / 8] | w;
 }
 
 // Whether entry j of a list is k.
 fn next_is(dropped: &[u64], j: usize, k: usize) -> bool
     ensures { result ≡ next_is dropped.now j k }
 {
-    if j < dropped.len() {
-        return dropped[j] == k as u64;
-    }
-    false
-}
-
-// One more where it is so.
-fn step(n: usize, so: bool) -> usize
-    requires { n < 65536 }
-    ensures { result ≡ (if so then n + 1 else n) }
-{
-    if so {
-        return n + 1;
-    }
-    n
+    dropped.get(j) == Some(&(k as u64))
 }
 
 // The headers that kept records name marked in a table of zeros, where a file's front ends with its records. How many records are kept is
@@ -122,15 +76,13 @@ fn mark_kept(
     ensures { (result ≡ count_below (keeps dropped.now) records) × MarksOf table.new file.now dropped.now first records }
 {
     let mut at = first;
-    let mut j: usize = 0;
-    let mut k: usize = 0;
-    while k < records {
+    let mut j = 0;
+    for k in 0..records {
         let e = day_steps::entry_at(file, at);
         let named = next_is(dropped, j, k);
         mark(table, e.header, named);
         at = e.end;
-        j = step(j, named);
-        k += 1;
+        j += usize::from(named);
     }
     records - j
 }
@@ -142,9 +94,10 @@ fn move_kept(out: &mut [u8], to: usize, from: usize, n: usize, set: usize) -> us
 {
     if set == 1 {
         day_place::move_bytes(out, to, from, n);
-        return to + n;
+        to + n
+    } else {
+        to
     }
-    to
 }
 
 // The headers whose bits are set put one after the other behind the four bytes of their count. The place after them is returned.
@@ -152,14 +105,12 @@ fn pack_headers(out: &mut [u8], headers: usize, table: &[u8; 1638]) -> usize
     requires { (head_end out.old headers ≤ length out.old) × (headers ≤ 13104) }
     ensures { (result ≡ 4 + length (heads_kept out.old table.now headers)) × Packed out.old (take 4 out.old ++ heads_kept out.old table.now headers) (head_end out.old headers) out.new }
 {
-    let mut from: usize = 4;
-    let mut to: usize = 4;
-    let mut i: usize = 0;
-    while i < headers {
+    let mut from = 4;
+    let mut to = 4;
+    for i in 0..headers {
         let n = 2 + numbers::read::<2>(out, from);
         to = move_kept(out, to, from, n, bit(table, i));
         from += n;
-        i += 1;
     }
     to
 }
@@ -179,12 +130,13 @@ fn put_kept(
     ensures { (result ≡ to + length (record_part dropped (bits_below table.now number) (take (end - (from + 2)) (drop (from + 2) out.old)))) × (out.new ≡ placed to (record_part dropped (bits_below table.now number) (take (end - (from + 2)) (drop (from + 2) out.old))) out.old) }
 {
     if dropped {
-        return to;
+        to
+    } else {
+        let n = count(table, before, number);
+        numbers::put::<2>(out, to, n);
+        day_place::move_bytes(out, to + 2, from + 2, end - (from + 2));
+        to + (end - from)
     }
-    let n = count(table, before, number);
-    numbers::put::<2>(out, to, n);
-    day_place::move_bytes(out, to + 2, from + 2, end - (from + 2));
-    to + (end - from)
 }
 
 // The records that stand from one place to another put one after the other at an earlier place, without those that are dropped. The place after
@@ -204,15 +156,13 @@ fn pack_records(
 {
     let mut from = first;
     let mut to = start;
-    let mut j: usize = 0;
-    let mut k: usize = 0;
-    while k < records {
+    let mut j = 0;
+    for k in 0..records {
         let e = day_steps::entry_at(&out[..last], from);
         let named = next_is(dropped, j, k);
         to = put_kept(out, to, from, e.end, e.header, table, before, named);
         from = e.end;
-        j = step(j, named);
-        k += 1;
+        j += usize::from(named);
     }
     to
 }
