@@ -52,11 +52,8 @@ fn sub_bytes(q: Planes) -> Planes
 fn of_rows(a: Row, b: Row, c: Row, d: Row) -> Planes
     ensures { result ≡ of_rows a b c d }
 {
-    [
-        d[0], c[0], b[0], a[0], d[1], c[1], b[1], a[1], d[2], c[2], b[2], a[2], d[3], c[3], b[3],
-        a[3], d[4], c[4], b[4], a[4], d[5], c[5], b[5], a[5], d[6], c[6], b[6], a[6], d[7], c[7],
-        b[7], a[7],
-    ]
+    let rows = [d, c, b, a];
+    from_fn(|i| rows[i % 4][i / 4])
 }
 
 // ShiftRows and MixColumns: row r is turned by r columns.
