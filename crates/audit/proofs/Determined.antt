@@ -513,7 +513,7 @@ pass_added_determined κs a z w e f p q = one p q
 pub pass_put_two_determined : (κs : _) (a : _) (z w : _) (e f : _) → pass-put-two.Learnt κs a z e → pass-put-two.Learnt κs a w f → e.0.now ≡ f.0.now
 pass_put_two_determined κs a z w e f p q = one p q
 
-pub pass_all_pairs_determined : (κs : _) (a : _) (z w : _) (e f : _) → pass-all-pairs.Learnt κs a z e → pass-all-pairs.Learnt κs a w f → (z ≡ w) × (e.1.1.1.1.1.0.now ≡ f.1.1.1.1.1.0.now)
+pub pass_all_pairs_determined : (κs : _) (a : _) (z w : _) (e f : _) → pass-all-pairs.Learnt κs a z e → pass-all-pairs.Learnt κs a w f → (z ≡ w) × (e.1.1.1.1.0.now ≡ f.1.1.1.1.0.now)
 pass_all_pairs_determined κs a z w e f p q = (one p.0 q.0, one p.1 q.1)
 
 -- ---- AEZ-core: `wide`

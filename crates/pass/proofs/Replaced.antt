@@ -23,9 +23,6 @@ module _ (f : ℕ → Bytes) (M : Bytes) where
   pub replaced_after : (s : Bytes) (at n : ℕ) → Replaced f M s at n → drop at s ≡ drop at M
   replaced_after s at n p = ap (drop at) p.there ∙ drop_at (join n f) (drop at M) at p.long
 
-  pub replaced_within : (s : Bytes) (at n : ℕ) → Replaced f M s at n → at ≤ length M
-  replaced_within s at n p = omega (arith, ap length p.there, length-append (join n f) (drop at M), p.long, p.same)
-
   -- the next k pairs, which were lent, came back as ys
   pub replaced_more : (s : Bytes) (at n k size : ℕ) (ys : Bytes) → Replaced f M s at n → size ≡ 32 * k → at + size ≤ length s
       → ys ≡ join k (λ i. f (n + i)) → length ys ≡ size → Replaced f M (take at s ++ (ys ++ drop size (drop at s))) (at + 32 * k) (n + k)
@@ -44,11 +41,13 @@ module _ (f : ℕ → Bytes) (M : Bytes) where
         same = ap length all ∙ length-append (join (n + k) f) (drop (at + 32 * k) M) ∙ omega (arith, length-drop (at + 32 * k) M, p.same);
       }
 
-  -- one pair
-  pub replaced_one : (s : Bytes) (at n size : ℕ) (ys : Bytes) → Replaced f M s at n → size ≡ 32 → at + size ≤ length s → ys ≡ f (n + 1) → length ys ≡ size
-      → Replaced f M (take at s ++ (ys ++ drop size (drop at s))) (at + 32) (n + 1)
+  -- the pair after the first n
+  pub replaced_one : (s : Bytes) (n size : ℕ) (ys : Bytes) → Replaced f M s (32 * n) n → size ≡ 32 → 32 * n + size ≤ length s → ys ≡ f (n + 1) → length ys ≡ size
+      → Replaced f M (take (32 * n) s ++ (ys ++ drop size (drop (32 * n) s))) (32 * (n + 1)) (n + 1)
   unfolding join
-  replaced_one s at n size ys p e h g l = replaced_more s at n 1 size ys p e h g l
+  replaced_one s n size ys p e h g l =
+      let next : 32 * n + 32 * 1 ≡ 32 * (n + 1) = omega arith in
+      rw (sym next) (replaced_more s (32 * n) n 1 size ys p e h g l)
 
   -- no pair is left
   pub replaced_all : (s : Bytes) (at n : ℕ) → Replaced f M s at n → length M ≤ at → s ≡ join n f

@@ -3,35 +3,36 @@ use mathlib.Core.Bool.{Bool, true, false}
 use mathlib.Core.Path.{◌≡◌, refl, ap, ◌∙◌}
 use Prim.Native.Nat.{ℕ, ◌+◌, ◌-◌, ◌*◌, ◌/◌, ◌≤◌}
 use native.Mathlib.Omega.{arith}
-use borrow.Author.Tests.{ltb-true, ltb-false}
+use borrow.Author.Tests.{ltb-false}
 use lib.Dec.{ltb}
-use Rattle.std.specs.Prelude.{if◌then◌else◌}
+use lib.ListN.{length, take, drop, length-take, length-drop}
+use Rattle.std.specs.Prelude.{min, if◌then◌else◌}
+use Rattle.paper.specs.Strings.{Bytes}
 use Rattle.pass.specs.Pairs.{fewest, taken}
 
-pub record Fits (n left : ℕ) : Type 0 where
+-- a turn that takes n pairs of a string of `long` bytes, of which the first `at` are done: the string's last pair stays, and where it takes more
+-- than one, the string has enough for a group
+pub record Turn (long at n : ℕ) : Type 0 where
   pub from1 : 1 ≤ n
   pub few : n ≤ 16
-  pub within : n ≤ left
+  pub room : at + 32 * n + 32 ≤ long
+  pub group : 2 ≤ n → 32 * (fewest + 1) ≤ long
 
-picked : (left : ℕ) → 1 ≤ left → (s t : Bool) → ltb left 16 ≡ t → Fits (if s then 1 else (if t then left else 16)) left
-picked left h true t e = record { from1 = omega arith; few = omega arith; within = omega arith }
-picked left h false true e = let less = ltb-true left 16 e in record { from1 = omega arith; few = omega arith; within = omega arith }
-picked left h false false e = let more = ltb-false left 16 e in record { from1 = omega arith; few = omega arith; within = omega arith }
-
-pub taken_fits : (left : ℕ) → 1 ≤ left → Fits (taken left) left
-taken_fits left h = picked left h (ltb left fewest) (ltb left 16) refl
-
--- more than one is taken where there are enough for a group
-pub taken_group : (left n : ℕ) → n ≡ taken left → 2 ≤ n → fewest ≤ left
-taken_group left n e h = go (ltb left fewest) refl
+pub turn : (long at n : ℕ) → 64 ≤ long - at → n ≡ taken ((long - at) / 32 - 1) → Turn long at n
+turn long at n h e = go (ltb ((long - at) / 32 - 1) fewest) refl
   where
-    go : (t : Bool) → ltb left fewest ≡ t → fewest ≤ left
-    go true f = absurd (one (e ∙ ap (λ (t : Bool). if t then 1 else (if ltb left 16 then left else 16)) f))
-      where
-        one : n ≡ 1 → ⊥
-        one is = omega arith
-    go false f = ltb-false left fewest f
+    go : (t : Bool) → ltb ((long - at) / 32 - 1) fewest ≡ t → Turn long at n
+    go true f =
+        let one : n ≡ 1 = e ∙ ap (λ (t : Bool). if t then 1 else min ((long - at) / 32 - 1) 16) f in
+        record { from1 = omega arith; few = omega arith; room = omega arith; group = λ two. omega arith }
+    go false f =
+        let is : n ≡ min ((long - at) / 32 - 1) 16 = e ∙ ap (λ (t : Bool). if t then 1 else min ((long - at) / 32 - 1) 16) f in
+        let enough : 4 ≤ (long - at) / 32 - 1 = ltb-false ((long - at) / 32 - 1) fewest f in
+        record { from1 = omega arith; few = omega arith; room = omega arith; group = λ two. omega arith }
 
--- of a string of which the first `at` entries are done, the last pair stays
-pub room : (n at long : ℕ) → 64 ≤ long - at → Fits n ((long - at) / 32 - 1) → at + 32 * n + 32 ≤ long
-room n at long h f = omega (arith, f.within)
+-- the part that a turn takes
+pub part_long : (at n : ℕ) (s : Bytes) → at + 32 * n ≤ length s → length (take (at + 32 * n - at) (drop at s)) ≡ 32 * n
+part_long at n s h = simp (length-take, length-drop) (omega arith)
+
+pub several : (n : ℕ) → 1 ≤ n → (n ≡ 1 → ⊥) → 2 ≤ n
+several n h ne = omega arith

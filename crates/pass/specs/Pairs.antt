@@ -1,10 +1,9 @@
 -- Lines 226, 232 and 233 of Figure 5 for one pair of blocks, which stand after each other in P, and for the pairs of a string.
-use Rattle.std.specs.Prelude.{List, ◌++◌, ◌≡◌, ℕ, zero, suc, ◌+◌, ◌-◌, ◌*◌, ◌/◌, ◌≤◌, ltb, length, take, drop, if◌then◌else◌}
+use Rattle.std.specs.Prelude.{List, ◌++◌, ◌≡◌, ℕ, ◌+◌, ◌-◌, ◌*◌, ◌/◌, ◌≤◌, min, ltb, length, take, drop, if◌then◌else◌}
 use Rattle.paper.specs.Strings.{Bytes, ◌⊕◌, sum, join}
 use Rattle.paper.specs.Figure6.{row, BlockFunction, Key}
 use Rattle.paper.specs.Figure5.{pairs}
 use Rattle.columns.specs.Columns.{columns_of, block_of}
-use Rattle.masks.specs.Powers.{next_power}
 use Rattle.groups.specs.Groups.{each, entry, Holds}
 use Rattle.pass.specs.declared.Pass.{Pass}
 use Rattle.pass.specs.declared.Pass.TheVariants.{First, Second}
@@ -38,13 +37,13 @@ module _ (E : BlockFunction) (S : Bytes) (i : ℕ) (P : Bytes) where
   second_pair = second_c ++ second_c'
 
 -- what one pair adds to the sum of a pass, and what becomes of it
-abbrev pub summand : BlockFunction → Pass → Bytes → ℕ → Bytes → Bytes
-summand E First S = first_x E
-summand E Second S = second_y E S
+abbrev pub summand : BlockFunction → Pass → ℕ → Bytes → Bytes
+summand E First = first_x E
+summand E (Second S) = second_y E S
 
-abbrev pub new_pair : BlockFunction → Pass → Bytes → ℕ → Bytes → Bytes
-new_pair E First S = first_pair E
-new_pair E Second S = second_pair E S
+abbrev pub new_pair : BlockFunction → Pass → ℕ → Bytes → Bytes
+new_pair E First = first_pair E
+new_pair E (Second S) = second_pair E S
 
 -- the i-th pair of a string, counted from 1
 abbrev pub pair_at : Bytes → ℕ → Bytes
@@ -77,7 +76,7 @@ abbrev pub fewest : ℕ
 fewest = 4
 
 abbrev pub taken : ℕ → ℕ
-taken left = if ltb left fewest then 1 else (if ltb left 16 then left else 16)
+taken left = if ltb left fewest then 1 else min left 16
 
 -- w holds the key K, where there is a part P of more than one pair, and where a string of n bytes has as many pairs as make a group
 abbrev pub HoldsBeside : Bytes → Key → List (List ℕ) → Type 0
@@ -85,8 +84,3 @@ HoldsBeside P K w = (length P ≡ 32 → ⊥) → Holds K w
 
 abbrev pub HoldsFor : ℕ → Key → List (List ℕ) → Type 0
 HoldsFor n K w = 32 * (fewest + 1) ≤ n → Holds K w
-
--- the power of L for b + n, of that for b
-unfoldable pub power_after : ℕ → ℕ → List ℕ → List ℕ
-power_after b zero power = power
-power_after b (suc n) power = next_power (b + n) (power_after b n power)

@@ -15,6 +15,8 @@ ghost use Rattle.wide.specs.Ways.{first_of, second_of, end_pairs};
 ghost use Rattle.wide.specs.Ends.{sx_of, sy_of, cx_of, cy_of};
 ghost use Rattle.wide.specs.Uv.{with_uv, u_masked, v_masked};
 
+use pass::Pass;
+
 // Whether a string is enciphered or deciphered.
 #[derive(Clone, Copy)]
 pub enum Way {
@@ -31,22 +33,24 @@ struct EndPairs {
     yy: pairs::Pair,
 }
 
-fn pairs_of(way: Way) -> EndPairs
-    ensures { result ≡ end_pairs way }
-{
-    match way {
-        Way::Encipher => EndPairs {
-            x: pairs::Pair::X,
-            xx: pairs::Pair::XX,
-            y: pairs::Pair::Y,
-            yy: pairs::Pair::YY,
-        },
-        Way::Decipher => EndPairs {
-            x: pairs::Pair::Y,
-            xx: pairs::Pair::YY,
-            y: pairs::Pair::X,
-            yy: pairs::Pair::XX,
-        },
+impl Way {
+    fn end_pairs(self) -> EndPairs
+        ensures { result ≡ end_pairs self }
+    {
+        match self {
+            Way::Encipher => EndPairs {
+                x: pairs::Pair::X,
+                xx: pairs::Pair::XX,
+                y: pairs::Pair::Y,
+                yy: pairs::Pair::YY,
+            },
+            Way::Decipher => EndPairs {
+                x: pairs::Pair::Y,
+                xx: pairs::Pair::YY,
+                y: pairs::Pair::X,
+                yy: pairs::Pair::XX,
+            },
+        }
     }
 }
 
@@ -58,23 +62,83 @@ struct Sums {
     s: [u8; 16],
 }
 
-// Lines 227 to 229: a sum, and what u and v add to it. At 16 bytes v is empty, and its padding is added all the same.
-fn with_uv(k: tbc::Base, m: &[u32; 32], total: [u8; 16], uv: &[u8]) -> [u8; 16]
-    requires { (length uv.now < 32) × OfJ k m.now }
-    ensures { result ≡ with_uv (E (base k)) total uv.now }
-{
-    let d = uv.len();
-    if d == 0 {
-        return total;
+// What stays the same through lines 220 to 240.
+#[derive(Clone, Copy)]
+struct Setting<'a> {
+    k: tbc::Base,
+    m: &'a [u32; 32],
+    delta: [u8; 16],
+    way: Way,
+    ghost of_j: { OfJ k m.now },
+}
+
+// Up to this many bytes of M_uv are u alone, which is padded.
+const SHORT: usize = 15;
+
+impl Setting<'_> {
+    // Lines 227 to 229: a sum, and what u and v add to it. At 16 bytes v is empty, and its padding is added all the same.
+    fn with_uv(&self, total: [u8; 16], uv: &[u8]) -> [u8; 16]
+        requires { length uv.now < 32 }
+        ensures { result ≡ with_uv (E (base self.now.k)) total uv.now }
+    {
+        if uv.is_empty() {
+            total
+        } else if uv.len() <= SHORT {
+            pass::added(self.k, self.m, pairs::Pair::U, total, block::pad(uv))
+        } else {
+            let u = slices::load(uv, 0);
+            let more = pass::added(self.k, self.m, pairs::Pair::U, total, u);
+            let v = block::pad(&uv[16..]);
+            pass::added(self.k, self.m, pairs::Pair::V, more, v)
+        }
     }
-    if d <= 15 {
-        let short = block::pad(uv);
-        return pass::added(k, m, pairs::Pair::U, total, short);
+
+    // Lines 234 to 238: M_u M_v becomes C_u C_v.
+    fn mask_uv(&self, sum: [u8; 16], uv: &mut [u8])
+        requires { length uv.old < 32 }
+        ensures { uv.new ≡ u_masked (E (base self.now.k)) sum uv.old ++ v_masked (E (base self.now.k)) sum uv.old }
+    {
+        if uv.is_empty() {
+            return;
+        }
+        let e = tbc::e(self.k, self.m, pairs::Pair::UU, sum);
+        if uv.len() <= SHORT {
+            mask(uv, e);
+            return;
+        }
+        let f = tbc::e(self.k, self.m, pairs::Pair::VV, sum);
+        mask(&mut uv[..16], e);
+        mask(&mut uv[16..], f);
     }
-    let u = slices::load(uv, 0);
-    let more = pass::added(k, m, pairs::Pair::U, total, u);
-    let v = block::pad(&uv[16..d]);
-    pass::added(k, m, pairs::Pair::V, more, v)
+
+    // Line 230: S_x, S_y and S, of the last two blocks and the sum X.
+    fn middle(&self, total: [u8; 16], last: &[u8]) -> Sums
+        requires { length last.now ≡ 32 }
+        ensures { (result.sx ≡ sx_of (E (base self.now.k)) self.now.delta (first_of self.now.way) total last.now) × (result.sy ≡ sy_of (E (base self.now.k)) self.now.delta (first_of self.now.way) total last.now) × (result.s ≡ result.sx ⊕ result.sy) }
+    {
+        let ends = self.way.end_pairs();
+        let mx = slices::load(last, 0);
+        let my = slices::load(last, 16);
+        let a = block::xor(mx, self.delta);
+        let b = block::xor(a, total);
+        let sx = pass::added(self.k, self.m, ends.x, b, my);
+        let sy = pass::added(self.k, self.m, ends.xx, my, sx);
+        let s = block::xor(sx, sy);
+        Sums { sx, sy, s }
+    }
+
+    // Line 239: C_x C_y put in place of the last two blocks, by S_x, S_y and the sum Y.
+    fn put_last(&self, total: [u8; 16], sums: Sums, last: &mut [u8])
+        requires { length last.old ≡ 32 }
+        ensures { last.new ≡ cx_of (E (base self.now.k)) self.now.delta (second_of self.now.way) total sums.sx sums.sy ++ cy_of (E (base self.now.k)) self.now.delta (second_of self.now.way) total sums.sx sums.sy }
+    {
+        let ends = self.way.end_pairs();
+        let cy = pass::added(self.k, self.m, ends.yy, sums.sx, sums.sy);
+        let a = block::xor(sums.sy, self.delta);
+        let b = block::xor(a, total);
+        let cx = pass::added(self.k, self.m, ends.y, b, cy);
+        pass::put_two(last, cx, cy);
+    }
 }
 
 // A part of at most 16 bytes, xored with the front of e.
@@ -82,76 +146,9 @@ fn mask(part: &mut [u8], e: [u8; 16])
     requires { length part.old ≤ 16 }
     ensures { part.new ≡ part.old ⊕ e }
 {
-    let mut i: usize = 0;
-    while i < part.len() {
-        part[i] = part[i] ^ e[i];
-        i += 1;
+    for i in 0..part.len() {
+        part[i] ^= e[i];
     }
-}
-
-// Lines 234 to 238: M_u M_v becomes C_u C_v.
-fn mask_uv(k: tbc::Base, m: &[u32; 32], sum: [u8; 16], uv: &mut [u8])
-    requires { (length uv.old < 32) × OfJ k m.now }
-    ensures { uv.new ≡ u_masked (E (base k)) sum uv.old ++ v_masked (E (base k)) sum uv.old }
-{
-    let n = uv.len();
-    if n == 0 {
-        return;
-    }
-    let e = tbc::e(k, m, pairs::Pair::UU, sum);
-    if n <= 15 {
-        mask(uv, e);
-        return;
-    }
-    let f = tbc::e(k, m, pairs::Pair::VV, sum);
-    mask(&mut uv[0..16], e);
-    mask(&mut uv[16..n], f);
-}
-
-// Line 230: S_x, S_y and S, of the last two blocks and the sum X.
-fn middle(
-    k: tbc::Base,
-    m: &[u32; 32],
-    delta: [u8; 16],
-    way: Way,
-    total: [u8; 16],
-    last: &[u8],
-) -> Sums
-    requires { (length last.now ≡ 32) × OfJ k m.now }
-    ensures { (result.sx ≡ sx_of (E (base k)) delta (first_of way) total last.now) × (result.sy ≡ sy_of (E (base k)) delta (first_of way) total last.now) × (result.s ≡ result.sx ⊕ result.sy) }
-{
-    let mx = slices::load(last, 0);
-    let my = slices::load(last, 16);
-    let i = pairs_of(way);
-    let a = block::xor(mx, delta);
-    let b = block::xor(a, total);
-    let sx = pass::added(k, m, i.x, b, my);
-    let sy = pass::added(k, m, i.xx, my, sx);
-    let s = block::xor(sx, sy);
-    Sums { sx, sy, s }
-}
-
-// Line 239: C_x C_y put in place of the last two blocks, by S_x, S_y and the sum Y.
-fn put_last(
-    k: tbc::Base,
-    m: &[u32; 32],
-    delta: [u8; 16],
-    way: Way,
-    total: [u8; 16],
-    sums: Sums,
-    last: &mut [u8],
-)
-    requires { (length last.old ≡ 32) × OfJ k m.now }
-    ensures { last.new ≡ cx_of (E (base k)) delta (second_of way) total sums.sx sums.sy ++ cy_of (E (base k)) delta (second_of way) total sums.sx sums.sy }
-{
-    let sx = sums.sx;
-    let sy = sums.sy;
-    let i = pairs_of(way);
-    let cy = pass::added(k, m, i.yy, sx, sy);
-    let a = block::xor(sy, delta);
-    let b = block::xor(a, total);
-    let cx = pass::added(k, m, i.y, b, cy);
-    pass::put_two(last, cx, cy);
 }
 
 // The keys on planes, for a string of n bytes: zeros where it has fewer pairs than make a group, and nobody reads them.
@@ -159,9 +156,10 @@ fn keys_for(k: tbc::Base, n: usize) -> groups::Keys
     ensures { (HoldsFor n (base k) result) × (result ≡ keys_for n (base k)) }
 {
     if n < 160 {
-        return [[0u64; 32]; 4];
+        [[0u64; 32]; 4]
+    } else {
+        groups::keys(k)
     }
-    groups::keys(k)
 }
 
 // Lines 220 to 240, in place: s becomes AEZ-core of it.
@@ -175,12 +173,17 @@ pub fn core_in_place(k: key::Key, delta: [u8; 16], way: Way, s: &mut [u8])
     let keys = keys_for(b, n);
     let at = 32 * (n / 32 - 1);
     let last = at + n % 32;
-    let first = pass::all_pairs(b, &m, &keys, pass::Pass::First, [0u8; 16], s);
-    let total = with_uv(b, &m, first, &s[at..last]);
-    let sums = middle(b, &m, delta, way, total, &s[last..n]);
-    let sum = sums.s;
-    mask_uv(b, &m, sum, &mut s[at..last]);
-    let second = pass::all_pairs(b, &m, &keys, pass::Pass::Second, sum, s);
-    let all = with_uv(b, &m, second, &s[at..last]);
-    put_last(b, &m, delta, way, all, sums, &mut s[last..n]);
+    let setting = Setting {
+        k: b,
+        m: &m,
+        delta,
+        way,
+    };
+    let first = pass::all_pairs(b, &m, &keys, Pass::First, s);
+    let total = setting.with_uv(first, &s[at..last]);
+    let sums = setting.middle(total, &s[last..n]);
+    setting.mask_uv(sums.s, &mut s[at..last]);
+    let second = pass::all_pairs(b, &m, &keys, Pass::Second(sums.s), s);
+    let all = setting.with_uv(second, &s[at..last]);
+    setting.put_last(all, sums, &mut s[last..n]);
 }
