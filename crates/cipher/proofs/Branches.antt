@@ -1,10 +1,9 @@
 -- The branches of lines 100 to 115: the empty text or another, a string of the stretch's length or a longer one.
 use mathlib.Core.Bool.{Bool, true, false}
-use mathlib.Core.List.{[], ◌∷◌, ◌++◌, append-nil}
+use mathlib.Core.List.{[], ◌∷◌, ◌++◌}
 use mathlib.Core.Option.{Option, none, some}
 use mathlib.Core.Path.{◌≡◌, refl, ap, ap₂, sym, ◌∙◌}
-use Prim.Native.Nat.{ℕ, zero, suc, ◌+◌, ◌-◌, ◌≤◌, ◌<◌}
-use native.Mathlib.Nat.{zero-add, sub-zero}
+use Prim.Native.Nat.{ℕ, zero, suc, ◌-◌, ◌≤◌, ◌<◌}
 use native.Mathlib.Omega.{arith}
 use borrow.Author.Tests.{eq-eqb, ne_eqb, le-ltb, lt-ltb}
 use lib.ListN.{length, take, drop, replicate, length-append, length-drop, take-append-drop}
@@ -15,7 +14,6 @@ use Rattle.paper.specs.Figure6.{BlockFunction, prf_from}
 use Rattle.paper.specs.Figure5.{encipher_tiny, decipher_tiny, core, encipher, decipher, unpadded}
 use Rattle.laws.proofs.Fronts.{lent_end}
 use Rattle.laws.proofs.Sealing.{same_equal}
-use Rattle.laws.proofs.Tables.{no_entries}
 use Rattle.wide.specs.declared.Way.{Way}
 use Rattle.wide.specs.declared.Way.TheVariants.{Encipher, Decipher}
 use Rattle.wide.specs.Ways.{first_of, second_of}
@@ -38,25 +36,18 @@ module _ (f : BlockFunction) (Δ X Y : Bytes) where
     unfolding decipher
     by_tiny_back w is e = e ∙ simp (is, lt-ltb _ _ h)
 
--- ---- Strings put first in a buffer
+-- ---- A string put first in a buffer
 
 -- mid is the buffer out with M first
-module _ (M out mid : Bytes) (copied : mid ≡ take 0 out ++ M ++ drop (0 + length M) out) where
-  put_first : mid ≡ M ++ drop (length M) out
-  put_first = copied ∙ ap (λ (k : ℕ). M ++ drop k out) (zero-add (length M))
-
-  -- a string that fills the buffer
-  pub put_all : length M ≡ length out → mid ≡ M
-  put_all h = put_first ∙ ap (λ (l : Bytes). M ++ l) (no_entries (drop (length M) out) (length-drop (length M) out ∙ omega arith)) ∙ append-nil M
-
+module _ (M out mid : Bytes) (copied : mid ≡ M ++ drop (length M) out) where
   -- M first, and zeros for the rest, which was lent
   cleared : (zs : Bytes) → length M ≤ length out → zs ≡ replicate (length (take (length mid - length M) (drop (length M) mid))) 0
       → take (length M) mid ++ (zs ++ drop (length mid - length M) (drop (length M) mid)) ≡ M ++ replicate (length out - length M) 0
   cleared zs h z =
       let n : ℕ = length out - length M in
       let ends : length (drop (length M) out) ≡ n = length-drop (length M) out in
-      let long : length mid ≡ length out = ap length put_first ∙ length-append M (drop (length M) out) ∙ omega (arith, ends) in
-      let front : take (length M) mid ≡ M = ap (take (length M)) put_first ∙ take-append_seam M (drop (length M) out) in
+      let long : length mid ≡ length out = ap length copied ∙ length-append M (drop (length M) out) ∙ omega (arith, ends) in
+      let front : take (length M) mid ≡ M = ap (take (length M)) copied ∙ take-append_seam M (drop (length M) out) in
       let back : length (drop (length M) mid) ≡ n = length-drop (length M) mid ∙ ap (λ (k : ℕ). k - length M) long in
       let all : take (length mid - length M) (drop (length M) mid) ≡ drop (length M) mid = take_all (length mid - length M) (drop (length M) mid) (omega (arith, long, back)) in
       let zeros : zs ≡ replicate n 0 = z ∙ ap (λ (k : ℕ). replicate k 0) (ap length all ∙ back) in
@@ -82,7 +73,7 @@ module _ (E : BlockFunction) (Δ : Bytes) where
       ∙ sym (ap (λ (b : Bool). if b then prf_from E Δ n else encipher E Δ (M ++ replicate n 0)) (eq-eqb (length M) 0 e))
 
   -- another: it is put first, the rest is cleared, and all is enciphered
-  pub seals_some : (M out mid zs last : Bytes) → length M ≤ length out → (length M ≡ 0 → ⊥) → mid ≡ take 0 out ++ M ++ drop (0 + length M) out
+  pub seals_some : (M out mid zs last : Bytes) → length M ≤ length out → (length M ≡ 0 → ⊥) → mid ≡ M ++ drop (length M) out
       → zs ≡ replicate (length (take (length mid - length M) (drop (length M) mid))) 0
       → last ≡ encipher E Δ (take (length M) mid ++ (zs ++ drop (length mid - length M) (drop (length M) mid)))
       → last ≡ encrypt_under E Δ (length out - length M) M
@@ -161,11 +152,11 @@ module _ (E : BlockFunction) (Δ : Bytes) where
       left false e = ap (λ (k : ℕ). replicate k 0) long
 
       -- the comparison of the last bytes with as many zeros of 64 found b
-      pub answer : (r b : Bool) → r ≡ b → t ≤ 64 → r ≡ same (take (length C - (length C - t)) end) (take (t - 0) (replicate 64 0))
+      pub answer : (r b : Bool) → r ≡ b → t ≤ 64 → r ≡ same (take (length X - (length C - t)) end) (take t (replicate 64 0))
           → (b ≡ opens (decrypt_under E Δ t C)) × ((if b then X else replicate (length X) 0) ≡ leaves (decrypt_under E Δ t C) t (length C))
       answer r b is_b short q =
-          let whole : take (length C - (length C - t)) end ≡ end = take_all (length C - (length C - t)) end (omega (arith, length-drop (length C - t) X, long)) in
-          let zeros : take {A = ℕ} (t - 0) (replicate 64 0) ≡ replicate t 0 = ap (λ (k : ℕ). take {A = ℕ} k (replicate 64 0)) (sub-zero t) ∙ take_zeros t 64 short in
+          let whole : take (length X - (length C - t)) end ≡ end = take_all (length X - (length C - t)) end (omega (arith, length-drop (length C - t) X, long)) in
+          let zeros : take {A = ℕ} t (replicate 64 0) ≡ replicate t 0 = take_zeros t 64 short in
           let found : same end (replicate t 0) ≡ b = sym (q ∙ ap₂ same whole zeros) ∙ is_b in
           let o : checked b front ≡ decrypt_under E Δ t C = sym (opened_X ∙ ap (λ (b : Bool). checked b front) found) in
           (sym (opens_checked b front) ∙ ap opens o, left b found ∙ ap (λ (o : Option Bytes). leaves o t (length C)) o)

@@ -14,13 +14,13 @@ fn cipher_in_place(k: key::Key, delta: [u8; 16], way: Way, s: &mut [u8])
     requires { (Kept k) × (1 ≤ length s.old) × (length s.old ≤ 65536) }
     ensures { s.new ≡ ciphered way (E (blocks k)) delta s.old }
 {
-    if 32 <= s.len() {
-        wide::core_in_place(k, delta, way, s);
-        return;
-    }
-    match way {
-        Way::Encipher => tiny::encipher(k, delta, s),
-        Way::Decipher => tiny::decipher(k, delta, s),
+    if s.len() >= 32 {
+        wide::core_in_place(k, delta, way, s)
+    } else {
+        match way {
+            Way::Encipher => tiny::encipher(k, delta, s),
+            Way::Decipher => tiny::decipher(k, delta, s),
+        }
     }
 }
 
@@ -34,8 +34,8 @@ pub fn encrypt(k: key::Key, delta: [u8; 16], text: &[u8], out: &mut [u8])
         hash::prf(k, delta, out);
         return;
     }
-    slices::copy(out, 0, text);
-    slices::clear(&mut out[n..]);
+    out[..n].copy_from_slice(text);
+    out[n..].fill(0);
     cipher_in_place(k, delta, Way::Encipher, out);
 }
 
@@ -47,7 +47,7 @@ fn decrypt_empty(k: key::Key, delta: [u8; 16], sealed: &[u8], out: &mut [u8]) ->
 {
     hash::prf(k, delta, out);
     let right = slices::same_bytes(sealed, out);
-    slices::clear(out);
+    out.fill(0);
     right
 }
 
@@ -61,13 +61,12 @@ pub fn decrypt(k: key::Key, delta: [u8; 16], stretch: usize, sealed: &[u8], out:
     if n == stretch {
         return decrypt_empty(k, delta, sealed, out);
     }
-    slices::copy(out, 0, sealed);
+    out.copy_from_slice(sealed);
     cipher_in_place(k, delta, Way::Decipher, out);
-    let at = n - stretch;
-    let zeros = [0u8; 64];
-    if slices::same_bytes(&out[at..n], &zeros[0..stretch]) {
+    // Every byte is compared, whatever is found (`slices`), so that the time does not tell where they differ.
+    if slices::same_bytes(&out[n - stretch..], &[0u8; 64][..stretch]) {
         return true;
     }
-    slices::clear(out);
+    out.fill(0);
     false
 }
