@@ -15,15 +15,15 @@ pub fn next_power(b: u32, power: Columns) -> Columns
     ensures { result ≡ next_power b power }
 {
     if b % 8 == 0 {
-        return columns::double(power);
+        columns::double(power)
+    } else {
+        power
     }
-    power
 }
 
 // Lines 406 and 408: (b mod 8)·J ⊕ power, the multiple of J being read.
 pub fn running_mask(m: &[u32; 32], b: u32, power: Columns) -> Columns
     ensures { result ≡ columns_of (block_of (four_at m.now (4 * (b % 8))) ⊕ block_of power) }
 {
-    let low = multiples::multiple(m, b);
-    columns::xor(low, power)
+    columns::xor(multiples::multiple(m, b), power)
 }

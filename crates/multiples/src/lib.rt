@@ -17,11 +17,10 @@ pub fn multiples(x: Columns) -> [u32; 32]
     let five = columns::xor(four, x);
     let six = columns::double(three);
     let seven = columns::xor(six, x);
-    [
-        0, 0, 0, 0, x[0], x[1], x[2], x[3], two[0], two[1], two[2], two[3], three[0], three[1],
-        three[2], three[3], four[0], four[1], four[2], four[3], five[0], five[1], five[2], five[3],
-        six[0], six[1], six[2], six[3], seven[0], seven[1], seven[2], seven[3],
-    ]
+    [[0; 4], x, two, three, four, five, six, seven]
+        .as_flattened()
+        .try_into()
+        .unwrap()
 }
 
 // Of eight blocks the one that n mod 8 counts from 0.
@@ -29,5 +28,5 @@ pub fn multiple(m: &[u32; 32], n: u32) -> Columns
     ensures { result ≡ four_at m.now (4 * (n % 8)) }
 {
     let at = 4 * ((n % 8) as usize);
-    [m[at], m[at + 1], m[at + 2], m[at + 3]]
+    m[at..at + 4].try_into().unwrap()
 }
