@@ -6,11 +6,13 @@ use Prim.Native.Nat.{ℕ, zero, suc, ◌+◌, ◌-◌, ◌*◌, ◌≤◌, ◌<�
 use native.Mathlib.Numerals.{add-one}
 use native.Mathlib.Omega.{arith}
 use lib.ListN.{length, get_or, take, drop, get_elem?, length-append, length-drop}
+use Rattle.std.proofs.Common.{Fits, w8}
 use lib.Seq.{take-suc, take_at, drop-drop, get_or-drop, take-append_seam}
 use Rattle.paper.specs.Strings.{Bytes, Below, digits}
 use Rattle.paper.specs.Document01.{write_strings}
 use Rattle.paper.specs.DayFile.{Record, Day, write_record, place_of, header_place, header_of, write_day, value, read_day}
 use Rattle.laws.proofs.BitStrings.{length_digits}
+use Rattle.laws.proofs.Digits.{below_of}
 use Rattle.laws.proofs.DayNumbers.{value_two, value_four}
 use Rattle.laws.proofs.Headers.{write_append}
 use Rattle.laws.proofs.DayWritten.{strings_long, record_long, day_long}
@@ -52,18 +54,18 @@ module _ (f : Bytes) (low : Below 256 f) (day : Day) (reads : read_day f ≡ som
     h = get_or day.headers n []
 
     -- its length bytes, itself, and what follows
-    pub there : (X : Bytes) × (drop at f ≡ digits 256 2 (length h) ++ (h ++ X))
-    there = (_, ap (drop at) (sym is) ∙ header_there day n p)
+    header_bytes : (X : Bytes) × (drop at f ≡ digits 256 2 (length h) ++ (h ++ X))
+    header_bytes = (_, ap (drop at) (sym is) ∙ header_there day n p)
 
     pub header_room : at + 2 + length h ≤ length f
     header_room =
         omega
-        (arith, ap length there.1, length-drop at f, length-append (digits 256 2 (length h)) (h ++ there.0), length-append h there.0, length_digits 256 2 (length h))
+        (arith, ap length header_bytes.1, length-drop at f, length-append (digits 256 2 (length h)) (h ++ header_bytes.0), length-append h header_bytes.0, length_digits 256 2 (length h))
 
     pub header_size : value (take 2 (drop at f)) ≡ length h
     header_size =
-        ap (λ (X : Bytes). value (take 2 X)) there.1
-        ∙ ap value (take_at (digits 256 2 (length h)) (h ++ there.0) 2 (length_digits 256 2 (length h)))
+        ap (λ (X : Bytes). value (take 2 X)) header_bytes.1
+        ∙ ap value (take_at (digits 256 2 (length h)) (h ++ header_bytes.0) 2 (length_digits 256 2 (length h)))
         ∙ value_two (length h) (omega (arith, header_room, short))
 
     next_place : at + 2 + length h ≡ 4 + length (write_strings (take (n + 1) day.headers))
@@ -170,6 +172,13 @@ stands f low records k e p =
       sealed_there = bytes_there f low day reads k r own.1;
       named = (fits f low day reads k r own.1).1;
     }
+
+-- the bytes of a slice are below 256, and so the record that is asked for stands
+pub read_below : (f : Bytes) → ((i : ℕ) → Fits w8 (get_or f i 0)) → Below 256 f
+read_below f low = below_of 256 f (λ i p. omega (arith, low i))
+
+pub there : (f : Bytes) → ((i : ℕ) → Fits w8 (get_or f i 0)) → (records k : ℕ) → (records ≡ records_in (read_day f)) × (k < records) → Stands f records k
+there f low records k p = stands f (read_below f low) records k p.0 p.1
 
 -- ---- What is found of it
 

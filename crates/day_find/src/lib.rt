@@ -7,6 +7,9 @@ ghost use Rattle.day_find.specs.Finds.{headers_in, records_in, entry_in, length_
 
 use day_steps::Entry;
 
+// The number of records comes beside the file into each function here, and no type ties the two: one that the check makes would ask more of
+// those who call `place_from` and `day_marks::marks`, which answer also for a file that does not read.
+
 // Where a record's header and its sealed bytes start and end, and its stretch.
 #[derive(Clone, Copy)]
 pub struct Found {
@@ -33,10 +36,8 @@ pub fn place_from(file: &[u8], from: usize, at: usize, number: usize) -> usize
     ensures { result ≡ length_place (read_day file.now) number }
 {
     let mut place = at;
-    let mut i = from;
-    while i < number {
-        place = place + 2 + numbers::read::<2>(file, place);
-        i += 1;
+    for _ in from..number {
+        place += 2 + numbers::read::<2>(file, place);
     }
     place
 }
@@ -49,8 +50,7 @@ pub fn find_from(file: &[u8], records: usize, k: usize, from: usize, at: usize) 
     ensures within { FoundWithin result file.now }
 {
     let e = entry_of(file, records, k);
-    let header = e.header;
-    let place = place_from(file, from, at, header);
+    let place = place_from(file, from, at, e.header);
     let header_start = place + 2;
     let header_end = header_start + numbers::read::<2>(file, place);
     Found {

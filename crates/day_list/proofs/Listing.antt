@@ -2,10 +2,11 @@
 use mathlib.Core.List.{List, [], ◌∷◌, ◌++◌, append_assoc, append-nil}
 use mathlib.Core.Option.{Option, none, some}
 use mathlib.Core.Path.{◌≡◌, refl, ap, ap₂, sym, ◌∙◌}
-use Prim.Native.Nat.{ℕ, suc, ◌+◌, ◌*◌, ◌≤◌, ◌<◌}
+use Prim.Native.Nat.{ℕ, suc, ◌+◌, ◌-◌, ◌*◌, ◌≤◌, ◌<◌}
 use native.Mathlib.Numerals.{add-one}
 use native.Mathlib.Omega.{arith}
 use borrow.Author.Tests.{lt-ltb, le-ltb}
+use borrow.Rule.Slice.PartMut.{put_mid, Post-is}
 use lib.ListN.{length, get_or, take, drop, length-append, take-append-drop}
 use lib.Seq.{length-take-le, take-suc, take_all, drop-cons}
 use Rattle.paper.specs.Strings.{Bytes, Below}
@@ -39,6 +40,22 @@ then_put base n v w out mid last p e q room =
     q
     ∙ (λ i. placed (base + sym e i) w (p i))
     ∙ placed_then base v w out (omega (arith, e))
+
+-- what is copied over a part stands in its place
+pub put_placed : (at n : ℕ) (w out : List ℕ) → length w ≡ n → put_mid at (at + n - at) out w ≡ placed at w out
+put_placed at n w out e =
+    let past : at + n ≡ at + length w = omega (arith, e) in
+    ap (λ (X : List ℕ). take at out ++ (w ++ X)) (Post-is at (at + n) out (omega arith))
+    ∙ sym (append_assoc (take at out) w (drop (at + n) out))
+    ∙ ap (λ (k : ℕ). take at out ++ w ++ drop k out) past
+
+-- what is copied right after what there is
+pub then_copied : (base n m : ℕ) (v w out mid part : List ℕ) → mid ≡ placed base v out → length v ≡ n → part ≡ w → length w ≡ m → base + n + m ≤ length out
+    → put_mid (base + n) (base + n + m - (base + n)) mid part ≡ placed base (v ++ w) out
+then_copied base n m v w out mid part p e is l room =
+    then_put base n v w out mid (put_mid (base + n) (base + n + m - (base + n)) mid part) p e
+    (ap (put_mid (base + n) (base + n + m - (base + n)) mid) is ∙ put_placed (base + n) m w mid l)
+    (omega (arith, l))
 
 -- ---- Headers
 
@@ -116,7 +133,7 @@ pub record Passed (f : Bytes) (i at : ℕ) : Type 0 where
   pub room : at + 7 ≤ length f
   pub next : (entry_at f at).end ≡ record_place (read_day f) (i + 1)
   pub more : records_listed (read_day f) (i + 1)
-      ≡ records_listed (read_day f) i ++ ((entry_at f at).header ∷ (entry_at f at).stretch ∷ []) ++ ((entry_at f at).start ∷ (entry_at f at).end ∷ [])
+      ≡ records_listed (read_day f) i ++ (entry_at f at).header ∷ (entry_at f at).stretch ∷ (entry_at f at).start ∷ (entry_at f at).end ∷ []
 
 module _ (f : Bytes) (low : Below 256 f) (records i at : ℕ) (many : records ≡ records_in (read_day f)) (inside : i < records) (here : at ≡ record_place (read_day f) i) where
   s : Stands f records i
@@ -166,8 +183,7 @@ module _ (f : Bytes) (low : Below 256 f) (records i at : ℕ) (many : records �
             ∙ record_places_more (first_place s.day.headers) earlier s.own
             ∙ ap (λ (n : ℕ). record_places (first_place s.day.headers) earlier ++ one_record n s.own) (sym at_is)
             ∙ ap (λ (e : Entry). record_places (first_place s.day.headers) earlier ++ e.header ∷ e.stretch ∷ e.start ∷ e.end ∷ []) (sym fields)
-            ∙ ap (λ (o : Option Day). records_listed o i ++ (entry_at f at).header ∷ (entry_at f at).stretch ∷ (entry_at f at).start ∷ (entry_at f at).end ∷ []) (sym s.reads)
-            ∙ sym (append_assoc (records_listed (read_day f) i) ((entry_at f at).header ∷ (entry_at f at).stretch ∷ []) ((entry_at f at).start ∷ (entry_at f at).end ∷ []));
+            ∙ ap (λ (o : Option Day). records_listed o i ++ (entry_at f at).header ∷ (entry_at f at).stretch ∷ (entry_at f at).start ∷ (entry_at f at).end ∷ []) (sym s.reads);
       }
 
 -- ---- The call

@@ -15,28 +15,17 @@ pub struct Listed {
     pub records: usize,
 }
 
-// Two numbers put at a place of a list, and every other entry kept.
-fn put_two(places: &mut [u64], at: usize, x: u64, y: u64)
-    requires { at + 2 ≤ length places.old }
-    ensures { places.new ≡ placed at (x ∷ y ∷ []) places.old }
-{
-    places[at] = x;
-    places[at + 1] = y;
-}
-
 // For each header of a file that reads its start and its end, put first in a list.
 fn list_headers(file: &[u8], headers: usize, places: &mut [u64])
     requires { (headers ≡ headers_in (read_day file.now)) × (2 * headers ≤ length places.old) }
     ensures { places.new ≡ placed 0 (headers_listed (read_day file.now) headers) places.old }
 {
-    let mut at: usize = 4;
-    let mut i: usize = 0;
-    while i < headers {
+    let mut at = 4;
+    for i in 0..headers {
         let start = at + 2;
         let end = start + numbers::read::<2>(file, at);
-        put_two(places, 2 * i, start as u64, end as u64);
+        places[2 * i..2 * i + 2].copy_from_slice(&[start as u64, end as u64]);
         at = end;
-        i += 1;
     }
 }
 
@@ -47,14 +36,11 @@ fn list_records(file: &[u8], records: usize, first: usize, places: &mut [u64], b
     ensures { places.new ≡ placed base (records_listed (read_day file.now) records) places.old }
 {
     let mut at = first;
-    let mut i: usize = 0;
-    while i < records {
+    for i in 0..records {
         let e = day_steps::entry_at(file, at);
-        let place = base + 4 * i;
-        put_two(places, place, e.header as u64, e.stretch);
-        put_two(places, place + 2, e.start as u64, e.end as u64);
+        let own = [e.header as u64, e.stretch, e.start as u64, e.end as u64];
+        places[base + 4 * i..base + 4 * i + 4].copy_from_slice(&own);
         at = e.end;
-        i += 1;
     }
 }
 

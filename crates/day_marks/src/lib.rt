@@ -2,37 +2,23 @@
 // at most 63 headers for each, and not all that stand before it.
 #![tactic(auto)]
 
-ghost use Rattle.std.specs.Prelude.{◌≡◌, ◌<◌, min};
+ghost use Rattle.std.specs.Prelude.{◌≡◌, ◌<◌};
 ghost use Rattle.paper.specs.DayFile.{read_day};
 ghost use Rattle.day_find.specs.Finds.{headers_in, records_in, found_in, FoundWithin};
 ghost use Rattle.day_marks.specs.Marks.{marks_of};
 
 use day_find::Found;
 
-fn smaller(a: usize, b: usize) -> usize
-    ensures { result ≡ min a b }
-{
-    if b < a {
-        return b;
-    }
-    a
-}
-
 // The marks of a file that reads and has so many headers, in one walk over these. It has at most 13,104, so there are at most 205 marks.
 pub fn marks(file: &[u8], headers: usize) -> [u32; 205]
     requires { headers ≡ headers_in (read_day file.now) }
     ensures { result ≡ marks_of (read_day file.now) }
 {
-    let mut marks = [0u32; 205];
-    let mut at: usize = 4;
-    let mut i: usize = 0;
-    while i < 205 {
-        marks[i] = at as u32;
-        let from = smaller(64 * i, headers);
-        let next = smaller(64 * i + 64, headers);
-        let place = day_find::place_from(file, from, at, next);
-        at = place;
-        i += 1;
+    let mut marks = [0; 205];
+    let mut at = 4;
+    for (i, mark) in marks.iter_mut().enumerate() {
+        *mark = at as u32;
+        at = day_find::place_from(file, (64 * i).min(headers), at, (64 * i + 64).min(headers));
     }
     marks
 }
@@ -45,6 +31,5 @@ pub fn find(file: &[u8], marks: &[u32; 205], records: usize, k: usize) -> Found
 {
     let e = day_find::entry_of(file, records, k);
     let i = e.header / 64;
-    let at = marks[i] as usize;
-    day_find::find_from(file, records, k, 64 * i, at)
+    day_find::find_from(file, records, k, 64 * i, marks[i] as usize)
 }

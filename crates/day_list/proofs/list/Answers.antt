@@ -1,5 +1,5 @@
 -- `day_list::list` meets its contract.
-use Rattle.std.proofs.Common.{◌≡◌, ◌+◌, ◌*◌, ◌≤◌, ℕ, length, get_or, Fits, w8, arith}
+use Rattle.std.proofs.Common.{◌≡◌, ◌+◌, ◌*◌, ◌≤◌, ℕ, get_or, Fits, w8, arith}
 use Rattle.std.specs.Prelude.{Some}
 use Rattle.paper.specs.Strings.{Bytes}
 use Rattle.paper.specs.DayFile.{read_day}
