@@ -9,7 +9,7 @@ use native.Mathlib.Omega.{arith}
 use borrow.Author.Tests.{eqb-true, eqb-false, eq-eqb, ne_eqb, ltb-true, ltb-false}
 use lib.Bits.{bit_or, or_shr, or_mod, or_zero_r}
 use lib.Dec.{eqb, ltb}
-use lib.ListN.{length, get_or, set, replicate, get_or-replicate}
+use lib.ListN.{length, get_or, set, replicate, length-set, get_or-replicate}
 use lib.Seq.{get_or-set_same, get_or-set_other}
 use Rattle.std.specs.Prelude.{if◌then◌else◌}
 use Rattle.paper.specs.DayEdits.{count_below}
@@ -112,6 +112,13 @@ bits_count t p m h zero q = refl
 bits_count t p m h (suc n) q = ap₂ ◌+◌ (bits_count t p m h n (omega arith)) (h n (omega arith))
 
 -- ---- Counts by groups
+
+pub noted_long : (before before' : List ℕ) (n r : ℕ) → before' ≡ (if eqb (n % 64) 0 then set before (n / 64) r else before) → length before' ≡ length before
+noted_long before before' n r is = ap length is ∙ go (eqb (n % 64) 0)
+  where
+    go : (b : Bool) → length (if b then set before (n / 64) r else before) ≡ length before
+    go true = length-set before (n / 64) r
+    go false = refl
 
 pub tallied_none : (before t : List ℕ) → Tallied before t 0
 tallied_none before t k p = absurd (omega arith)

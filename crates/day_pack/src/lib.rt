@@ -19,31 +19,44 @@ fn bit(table: &[u8; 1638], n: usize) -> usize
     usize::from((table[n / 8] >> (n % 8)) % 2)
 }
 
-// How many of the first n bits are set. How many before each group of 64 among them is noted in a table of zeros.
-fn tally(table: &[u8; 1638], n: usize, before: &mut [usize; 205]) -> usize
-    requires { (n ≤ 13104) × (before.old ≡ replicate 205 0) }
-    ensures { (result ≡ bits_below table.now n) × Tallied before.new table.now n }
-{
-    let mut r = 0;
-    for i in 0..n {
-        if i % 64 == 0 {
-            before[i / 64] = r;
-        }
-        r += bit(table, i);
-    }
-    r
+// A table of bits that are counted: how many are set in all, and how many before each group of 64.
+#[derive(Drop)]
+struct Counts<'a> {
+    table: &'a [u8; 1638],
+    before: [usize; 205],
+    all: usize,
 }
 
-// How many bits before bit n are set, its group's count being noted.
-fn count(table: &[u8; 1638], before: &[usize; 205], n: usize) -> usize
-    requires { (n < 13104) × Counted before.now table.now n }
-    ensures { result ≡ bits_below table.now n }
-{
-    let mut r = before[n / 64];
-    for i in n / 64 * 64..n {
-        r += bit(table, i);
+impl<'a> Counts<'a> {
+    // The first n bits counted.
+    fn of(table: &'a [u8; 1638], n: usize) -> Counts<'a>
+        requires { n ≤ 13104 }
+        ensures table { result.table.now ≡ table.now }
+        ensures all { result.all ≡ bits_below table.now n }
+        ensures before { Tallied result.before table.now n }
+    {
+        let mut before = [0; 205];
+        let mut all = 0;
+        for i in 0..n {
+            if i % 64 == 0 {
+                before[i / 64] = all;
+            }
+            all += bit(table, i);
+        }
+        Counts { table, before, all }
     }
-    r
+
+    // How many bits before bit n are set, its group's count being noted.
+    fn below(&self, n: usize) -> usize
+        requires { (n < 13104) × Counted self.now.before self.now.table.now n }
+        ensures { result ≡ bits_below self.now.table.now n }
+    {
+        let mut r = self.before[n / 64];
+        for i in n / 64 * 64..n {
+            r += bit(self.table, i);
+        }
+        r
+    }
 }
 
 // Bit n set, unless it is to be left.
@@ -122,17 +135,16 @@ fn put_kept(
     from: usize,
     end: usize,
     number: usize,
-    table: &[u8; 1638],
-    before: &[usize; 205],
+    counts: &Counts<'_>,
     dropped: bool,
 ) -> usize
-    requires { (to ≤ from) × (from + 7 ≤ end) × (end ≤ length out.old) × (number < 13104) × Counted before.now table.now number }
-    ensures { (result ≡ to + length (record_part dropped (bits_below table.now number) (take (end - (from + 2)) (drop (from + 2) out.old)))) × (out.new ≡ placed to (record_part dropped (bits_below table.now number) (take (end - (from + 2)) (drop (from + 2) out.old))) out.old) }
+    requires { (to ≤ from) × (from + 7 ≤ end) × (end ≤ length out.old) × (number < 13104) × Counted counts.now.before counts.now.table.now number }
+    ensures { (result ≡ to + length (record_part dropped (bits_below counts.now.table.now number) (take (end - (from + 2)) (drop (from + 2) out.old)))) × (out.new ≡ placed to (record_part dropped (bits_below counts.now.table.now number) (take (end - (from + 2)) (drop (from + 2) out.old))) out.old) }
 {
     if dropped {
         to
     } else {
-        let n = count(table, before, number);
+        let n = counts.below(number);
         numbers::put::<2>(out, to, n);
         day_place::move_bytes(out, to + 2, from + 2, end - (from + 2));
         to + (end - from)
@@ -148,11 +160,10 @@ fn pack_records(
     last: usize,
     start: usize,
     dropped: &[u64],
-    table: &[u8; 1638],
-    before: &[usize; 205],
+    counts: &Counts<'_>,
 ) -> usize
-    requires { Walkable (take last out.old) first records × (rising_from 0 records dropped.now ≡ true) × (start ≤ first) × (last ≤ length out.old) × CountedAll before.now table.now (take last out.old) first records }
-    ensures { (result ≡ start + length (records_kept (take last out.old) table.now dropped.now first records)) × Packed out.old (take start out.old ++ records_kept (take last out.old) table.now dropped.now first records) last out.new }
+    requires { Walkable (take last out.old) first records × (rising_from 0 records dropped.now ≡ true) × (start ≤ first) × (last ≤ length out.old) × CountedAll counts.now.before counts.now.table.now (take last out.old) first records }
+    ensures { (result ≡ start + length (records_kept (take last out.old) counts.now.table.now dropped.now first records)) × Packed out.old (take start out.old ++ records_kept (take last out.old) counts.now.table.now dropped.now first records) last out.new }
 {
     let mut from = first;
     let mut to = start;
@@ -160,7 +171,7 @@ fn pack_records(
     for k in 0..records {
         let e = day_steps::entry_at(&out[..last], from);
         let named = next_is(dropped, j, k);
-        to = put_kept(out, to, from, e.end, e.header, table, before, named);
+        to = put_kept(out, to, from, e.end, e.header, counts, named);
         from = e.end;
         j += usize::from(named);
     }
@@ -183,13 +194,12 @@ fn put_marked(
     ensures { (result ≡ length (cleared_file (read_day (take size out.old)) dropped.now)) × (out.new ≡ cleared_buffer (cleared_file (read_day (take size out.old)) dropped.now) size out.old) }
 {
     let last = size - 4 - 4 * records;
-    let mut before = [0usize; 205];
-    let named = tally(table, headers, &mut before);
-    numbers::put::<4>(out, 0, named);
+    let counts = Counts::of(table, headers);
+    numbers::put::<4>(out, 0, counts.all);
     let to = pack_headers(out, headers, table);
     numbers::put::<4>(out, to, kept);
     let start = to + 4;
-    let end = pack_records(out, first, records, last, start, dropped, table, &before);
+    let end = pack_records(out, first, records, last, start, dropped, &counts);
     day_place::put_index(out, start, kept, end);
     let n = end + 4 + 4 * kept;
     slices::clear(&mut out[n..size]);

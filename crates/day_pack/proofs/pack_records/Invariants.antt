@@ -3,4 +3,4 @@ use Rattle.day_pack.proofs.Records.{RecordsPacked}
 use Rattle.day_pack.proofs.pack_records.Given as goal
 
 abbrev pub invariant-loop-k : goal.invariant-loop-k
-invariant-loop-k l = RecordsPacked l.fn.out l.first l.records l.last l.start l.dropped l.table l.k l.from l.to l.j l.out
+invariant-loop-k l = RecordsPacked l.fn.out l.first l.records l.last l.start l.dropped l.counts.table.now l.k l.from l.to l.j l.out

@@ -12,10 +12,10 @@ returns-else-dropped c =
     let a = c.args in
     let r = c.requires in
     let X : Bytes = take (a.end - (a.from + 2)) (drop (a.from + 2) a.out.now) in
-    let number = bits_below a.table.now a.number in
+    let number = bits_below a.counts.now.table.now a.number in
     let is : digits 256 2 number ++ X ≡ record_part a.dropped number X = ap (λ (b : Bool). record_part b number X) (sym c.if-dropped.false) in
     let one = c.put.new.out in
     let two = c.move_bytes.new.out in
-    let put = kept_put a.out.now one two a.to a.from a.end c.count-n.result number r.0 r.1 r.2 c.count-n.ensures c.put.ensures c.move_bytes.ensures in
-    let long = kept_long a.out.now one two a.to a.from a.end c.count-n.result number r.0 r.1 r.2 c.count-n.ensures c.put.ensures c.move_bytes.ensures in
+    let put = kept_put a.out.now one two a.to a.from a.end c.below-n.result number r.0 r.1 r.2 c.below-n.ensures c.put.ensures c.move_bytes.ensures in
+    let long = kept_long a.out.now one two a.to a.from a.end c.below-n.result number r.0 r.1 r.2 c.below-n.ensures c.put.ensures c.move_bytes.ensures in
     (long ∙ ap (λ (w : Bytes). a.to + length w) is, put ∙ ap (λ (w : Bytes). placed a.to w a.out.now) is)

@@ -1,8 +1,8 @@
 -- `day_pack::put_marked` meets its contract: each step by what stands in the buffer after the one before it.
 use Rattle.std.proofs.Common.{lit≤}
-use mathlib.Core.List.{List}
+use mathlib.Core.List.{List, ◌++◌}
 use mathlib.Core.Option.{Option}
-use mathlib.Core.Path.{◌≡◌, refl, ap, sym, ◌∙◌}
+use mathlib.Core.Path.{◌≡◌, refl, ap, sym, subst, ◌∙◌}
 use Prim.Native.Nat.{ℕ, ◌+◌, ◌-◌, ◌*◌, ◌≤◌}
 use native.Mathlib.Omega.{arith}
 use borrow.Author.Rules.{rules}
@@ -12,8 +12,9 @@ use Rattle.paper.specs.Strings.{Bytes}
 use Rattle.paper.specs.DayFile.{Day, write_records, write_day, read_day}
 use Rattle.paper.specs.DayEdits.{cleared}
 use Rattle.laws.proofs.Digits.{below_of}
+use Rattle.day_pack.specs.Kept.{CountedAll, records_kept, Packed}
 use Rattle.day_pack.specs.Cleared.{cleared_file, cleared_buffer}
-use Rattle.day_pack.proofs.Steps.{Begun, Marked, CountPut, HeadersPut, NumberPut, RecordsPut, IndexPut}
+use Rattle.day_pack.proofs.Steps.{Begun, last_of, Marked, CountPut, HeadersPut, NumberPut, RecordsPut, IndexPut}
 use Rattle.day_pack.proofs.Clears as clears
 use Rattle.day_pack.proofs.put_marked.Statement.{statement}
 use Rattle.day_pack.proofs.put_marked.Tie as tie
@@ -62,16 +63,16 @@ module _ (c : tie.After-shared_slice_known-1) where
 
 -- the headers' count is put
 module _ (c : tie.After-put) where
-  abbrev tallied : tie.After-tally-named
+  abbrev tallied : tie.After-of-counts
   tallied = c.before.before
 
   abbrev begun : tie.After-shared_slice_known-1
-  begun = tallied.before.before
+  begun = tallied.before
 
   abbrev h : CountPut (b begun) (m begun)
   h = record {
-    count = tallied.tally-named.result;
-    count_is = tallied.tally-named.ensures.0;
+    count = tallied.of-counts.result.all;
+    count_is = tallied.of-counts.ensures.1.0;
     out = c.put.new.out;
     put = c.put.ensures;
   }
@@ -119,12 +120,18 @@ module _ (c : tie.After-pack_records-end) where
   abbrev k₄ : tie.After-shared_slice_known-1
   k₄ = k₃ numbered
 
+  same_table : (tallied (counted h₄)).of-counts.result.table.now ≡ (start k₄).args.table.now
+  same_table = (tallied (counted h₄)).of-counts.ensures.0
+
+  abbrev kept : List ℕ → Bytes
+  kept t = records_kept (take (last_of (b k₄)) (n numbered).out) t (dropped k₄) (start k₄).args.first (records k₄)
+
   abbrev r : RecordsPut (b k₄) (m k₄) (h (counted h₄)) (q h₄) (n numbered)
   r = record {
     end = c.pack_records-end.result;
-    end_is = c.pack_records-end.ensures.0;
+    end_is = c.pack_records-end.ensures.0 ∙ ap (λ (t : List ℕ). (q h₄).to + 4 + length (kept t)) same_table;
     out = c.pack_records-end.new.out;
-    put = c.pack_records-end.ensures.1;
+    put = subst (λ (t : List ℕ). Packed (n numbered).out (take ((q h₄).to + 4) (n numbered).out ++ kept t) (last_of (b k₄)) c.pack_records-end.new.out) same_table c.pack_records-end.ensures.1;
   }
 
   -- where the cleared file ends
@@ -159,11 +166,11 @@ overflow_mul-last c = omega (arith, whole c, short c)
 overflow_sub-last-2 : tie.Need-overflow_sub-last-2
 overflow_sub-last-2 c = omega (arith, whole c)
 
-tally-named-requires : tie.Need-tally-named-requires
-tally-named-requires c κs = (clears.headers_few (b c.before), refl)
+of-counts-requires : tie.Need-of-counts-requires
+of-counts-requires c κs = clears.headers_few (b c)
 
 put-requires : tie.Need-put-requires
-put-requires c κs = let k = c.before.before.before in (search rules, (lit≤ tt, omega (arith, whole k, (start k).requires.0.inside)))
+put-requires c κs = let k = c.before.before in (search rules, (lit≤ tt, omega (arith, whole k, (start k).requires.0.inside)))
 
 pack_headers-to-requires : tie.Need-pack_headers-to-requires
 pack_headers-to-requires c κs =
@@ -187,12 +194,14 @@ pack_records-end-requires : tie.Need-pack_records-end-requires
 pack_records-end-requires c κs =
     let p = c.before.before.before.before in
     let w = headed p in
-    let k = k₃ p in (
+    let k = k₃ p in
+    let t = (tallied (counted w)).of-counts in (
       clears.records_ready (b k) (m k) (h (counted w)) (q w) (n p),
       (start k).requires.0.rises,
       to_room w,
       omega (arith, whole k, (start k).requires.0.inside, clears.out₃_long (b k) (m k) (h (counted w)) (q w) (n p)),
-      clears.records_counted_at (b k) (m k) (h (counted w)) (q w) (n p) (tallied (counted w)).tally-named.new.before (tallied (counted w)).tally-named.ensures.1,
+      subst (λ (u : List ℕ). CountedAll t.result.before u (take (last_of (b k)) (n p).out) (start k).args.first (records k)) (sym t.ensures.0)
+          (clears.records_counted_at (b k) (m k) (h (counted w)) (q w) (n p) t.result.before t.ensures.1.1),
     )
 
 put_index-requires : tie.Need-put_index-requires
@@ -244,7 +253,7 @@ put_marked_spec =
     overflow_sub-last
     overflow_mul-last
     overflow_sub-last-2
-    tally-named-requires
+    of-counts-requires
     put-requires
     pack_headers-to-requires
     put-requires-2
