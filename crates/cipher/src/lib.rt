@@ -29,14 +29,14 @@ pub fn encrypt(k: key::Key, delta: [u8; 16], text: &[u8], out: &mut [u8])
     requires { (Kept k) × (length text.now ≤ length out.old) × (length out.old ≤ 65536) × (length out.old - length text.now ≤ 64) }
     ensures { out.new ≡ encrypt_under (E (blocks k)) delta (length out.old - length text.now) text.now }
 {
-    let n = text.len();
-    if n == 0 {
-        hash::prf(k, delta, out);
-        return;
+    if text.is_empty() {
+        hash::prf(k, delta, out)
+    } else {
+        let n = text.len();
+        out[..n].copy_from_slice(text);
+        out[n..].fill(0);
+        cipher_in_place(k, delta, Way::Encipher, out)
     }
-    out[..n].copy_from_slice(text);
-    out[n..].fill(0);
-    cipher_in_place(k, delta, Way::Encipher, out);
 }
 
 // Lines 112 and 113: a sealed string of the stretch's length, which only the empty text can seal to. out, as long, ends as zeros, whether the
