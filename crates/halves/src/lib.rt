@@ -10,6 +10,7 @@ ghost use Rattle.halves.specs.HalfBytes.{half_bytes, byte_of, whole_bytes};
 ghost use Rattle.halves.specs.Blocks.{front, blocks_of, packed_both, firsts, front_column};
 
 use columns::Columns;
+use std::array::from_fn;
 
 // L and R.
 #[derive(Clone, Copy)]
@@ -24,10 +25,7 @@ fn half_byte(s: &[u8], j: usize) -> u8
     ensures { result ≡ get_or (half_bytes s.now) j 0 }
 {
     let b = s[j / 2];
-    if j % 2 == 0 {
-        return b / 16;
-    }
-    b % 16
+    if j % 2 == 0 { b / 16 } else { b % 16 }
 }
 
 // The byte of two half-bytes.
@@ -42,30 +40,14 @@ fn part(s: &[u8], at: usize) -> [u8; 16]
     requires { (at ≤ 32) × (at + 32 ≤ 2 * length s.now) }
     ensures { result ≡ whole_bytes (take 32 (drop at (half_bytes s.now))) }
 {
-    let mut r = [0u8; 16];
-    let mut i: usize = 0;
-    while i < 16 {
-        let h = half_byte(s, at + 2 * i);
-        let l = half_byte(s, at + (2 * i + 1));
-        let b = byte_of(h, l);
-        r[i] = b;
-        i += 1;
-    }
-    r
+    from_fn(|i| byte_of(half_byte(s, at + 2 * i), half_byte(s, at + (2 * i + 1))))
 }
 
 // The half-bytes of a block.
 fn unpack(x: [u8; 16]) -> [u8; 32]
     ensures { result ≡ half_bytes x }
 {
-    let mut h = [0u8; 32];
-    let mut i: usize = 0;
-    while i < 32 {
-        let b = half_byte(&x, i);
-        h[i] = b;
-        i += 1;
-    }
-    h
+    from_fn(|i| half_byte(&x, i))
 }
 
 // The bytes of the half-bytes h put into s.
@@ -73,11 +55,8 @@ fn put_bytes(s: &mut [u8], h: &[u8])
     requires { length h.now ≡ length s.old + length s.old }
     ensures { s.new ≡ whole_bytes h.now }
 {
-    let mut i: usize = 0;
-    while i < s.len() {
-        let b = byte_of(h[2 * i], h[2 * i + 1]);
-        s[i] = b;
-        i += 1;
+    for i in 0..s.len() {
+        s[i] = byte_of(h[2 * i], h[2 * i + 1]);
     }
 }
 
@@ -86,19 +65,10 @@ fn front_column(h: usize) -> u32
     ensures { result ≡ front_column h }
 {
     if 8 <= h {
-        return 0xffff_ffff;
+        0xffff_ffff
+    } else {
+        0xffff_ffff ^ (0xffff_ffff >> ((4 * h) as u32))
     }
-    0xffff_ffff ^ (0xffff_ffff >> ((4 * h) as u32))
-}
-
-// n - k, and 0 where n is less.
-fn less(n: usize, k: usize) -> usize
-    ensures { result ≡ n - k }
-{
-    if n <= k {
-        return 0;
-    }
-    n - k
 }
 
 // The bits of a half of n half-bytes.
@@ -106,21 +76,14 @@ pub fn front(n: usize) -> Columns
     requires { n ≤ 31 }
     ensures { result ≡ columns_of (front n) }
 {
-    let a = front_column(n);
-    let n8 = less(n, 8);
-    let b = front_column(n8);
-    let n16 = less(n, 16);
-    let c = front_column(n16);
-    let n24 = less(n, 24);
-    let d = front_column(n24);
-    [a, b, c, d]
+    from_fn(|c| front_column(n.saturating_sub(8 * c)))
 }
 
 // a and b, bit by bit.
 pub fn and(a: Columns, b: Columns) -> Columns
     ensures { result ≡ columns_of (block_of a and block_of b) }
 {
-    [a[0] & b[0], a[1] & b[1], a[2] & b[2], a[3] & b[3]]
+    from_fn(|i| a[i] & b[i])
 }
 
 // Line 214: L and R of s, for the bits of a half of s.
