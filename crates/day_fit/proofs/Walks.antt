@@ -1,5 +1,5 @@
 -- A walk over the lists that a writer is handed: from each entry on, what the definition makes of the bytes that are left.
-use mathlib.Core.Bool.{Bool, true, false, ◌&&◌}
+use mathlib.Core.Bool.{Bool, true, false, ◌&&◌, not}
 use mathlib.Core.List.{List, [], ◌∷◌}
 use mathlib.Core.Option.{Option, none, some}
 use mathlib.Core.Path.{◌≡◌, refl, ap, sym, ◌∙◌}
@@ -10,7 +10,12 @@ use borrow.Author.Tests.{le-leb, lt-leb, ne_eqb}
 use lib.Dec.{leb, eqb}
 use lib.ListN.{length, get_or, take, drop, drop_of_length-le}
 use lib.Seq.{drop-cons, drop-drop, get_or-drop}
-use Rattle.std.specs.Prelude.{if◌then◌else◌}
+use Rattle.std.specs.Prelude.{Result, Ok, Err, if◌then◌else◌}
+use Rattle.std.specs.Result.{is_err}
+use Rattle.header.specs.declared.BadEntry.{BadEntry}
+use Rattle.header.specs.Places.{read_as}
+use Rattle.header.proofs.Fits.{reads_fits, bad_fits}
+use Rattle.paper.specs.Document01.{reading}
 use Rattle.paper.specs.Strings.{Bytes}
 use Rattle.paper.specs.DayFile.{Record, present, header_fits, record_fits, headers_of, in_front_of, records_of}
 
@@ -31,6 +36,11 @@ present_front x none = refl
 present_front x (some xs) = refl
 
 -- ---- Headers
+
+-- a header fits just where it reads
+pub fits_as_read : (h : Bytes) (r : Result ℕ BadEntry) → r ≡ read_as (reading h) → (b : Bool) → is_err r ≡ b → header_fits h ≡ not b
+fits_as_read h (Ok n) e b q = reads_fits h n e ∙ ap not q
+fits_as_read h (Err k) e b q = bad_fits h k e ∙ ap not q
 
 module _ (ns : List ℕ) (i : ℕ) (X : Bytes) where
   abbrev n : ℕ

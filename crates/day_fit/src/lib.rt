@@ -15,9 +15,9 @@ pub fn headers_fit(lengths: &[u64], headers: &[u8]) -> bool
             return false;
         }
         let (header, more) = rest.split_at(*n as usize);
-        let Ok(_) = header::read(header) else {
+        if header::read(header).is_err() {
             return false;
-        };
+        }
         rest = more;
     }
     rest.is_empty()
