@@ -10,23 +10,16 @@ ghost use Rattle.laws.proofs.Exchange.{lower, upper};
 ghost use Rattle.sub_bytes.specs.Planes.{crossed, joined_bit, plane_bytes, planes_of, crossed_bytes};
 
 use columns::Columns;
+use std::array::from_fn;
 
-#[derive(Clone, Copy)]
-struct Pair {
-    a: u32,
-    b: u32,
-}
-
-// The bits of a where m has a 1 change places with those of b that stand n above them.
-fn exchanged(a: u32, b: u32, n: u32, m: u32) -> Pair
+// The bits of a where m has a 1 change places with those of b that stand n above them. `levels` has the same on words of 64 bits: one for both
+// would have to be generic over four operators and what each of them gives, and that is no plainer.
+fn exchanged(a: u32, b: u32, n: u32, m: u32) -> (u32, u32)
     requires { n < 32 }
-    ensures { (result.a ≡ word_of 32 (lower n m (bit a) (bit b))) × (result.b ≡ word_of 32 (upper n m (bit a) (bit b))) }
+    ensures { (result.0 ≡ word_of 32 (lower n m (bit a) (bit b))) × (result.1 ≡ word_of 32 (upper n m (bit a) (bit b))) }
 {
     let t = ((b >> n) ^ a) & m;
-    Pair {
-        a: a ^ t,
-        b: b ^ (t << n),
-    }
+    (a ^ t, b ^ (t << n))
 }
 
 // Four words turned over in each half-byte: bit w of a half-byte of word v and bit v of that half-byte of word w change places. First single
@@ -35,31 +28,19 @@ fn exchanged(a: u32, b: u32, n: u32, m: u32) -> Pair
 pub fn crossed(s: Columns) -> Columns
     ensures { result ≡ crossed s }
 {
-    let s0 = s[0];
-    let s1 = s[1];
-    let s2 = s[2];
-    let s3 = s[3];
-    let p = exchanged(s1, s0, 1, 0x5555_5555);
-    let q = exchanged(s3, s2, 1, 0x5555_5555);
-    let u = exchanged(q.b, p.b, 2, 0x3333_3333);
-    let v = exchanged(q.a, p.a, 2, 0x3333_3333);
-    [u.b, v.b, u.a, v.a]
+    let (p1, p0) = exchanged(s[1], s[0], 1, 0x5555_5555);
+    let (p3, p2) = exchanged(s[3], s[2], 1, 0x5555_5555);
+    let (u2, u0) = exchanged(p2, p0, 2, 0x3333_3333);
+    let (u3, u1) = exchanged(p3, p1, 2, 0x3333_3333);
+    [u0, u1, u2, u3]
 }
 
 // The planes of a state on crossed words.
 fn planes(w: Columns) -> [u64; 8]
     ensures { result ≡ planes_of w }
 {
-    [
-        w[0] as u64,
-        w[1] as u64,
-        w[2] as u64,
-        w[3] as u64,
-        (w[0] as u64) >> 4,
-        (w[1] as u64) >> 4,
-        (w[2] as u64) >> 4,
-        (w[3] as u64) >> 4,
-    ]
+    let [a, b, c, d] = w.map(u64::from);
+    [a, b, c, d, a >> 4, b >> 4, c >> 4, d >> 4]
 }
 
 // The low half-bytes of a, and those of b as the high ones.
@@ -73,27 +54,14 @@ fn joined(a: u32, b: u32) -> u32
 fn low_halves(q: [u64; 8]) -> [u32; 8]
     ensures { plane_bytes result ≡ plane_bytes q }
 {
-    [
-        (q[0] % 4294967296) as u32,
-        (q[1] % 4294967296) as u32,
-        (q[2] % 4294967296) as u32,
-        (q[3] % 4294967296) as u32,
-        (q[4] % 4294967296) as u32,
-        (q[5] % 4294967296) as u32,
-        (q[6] % 4294967296) as u32,
-        (q[7] % 4294967296) as u32,
-    ]
+    from_fn(|j| (q[j] % 4294967296) as u32)
 }
 
 // The crossed words of a state on planes.
 fn words(q: [u32; 8]) -> Columns
     ensures { crossed_bytes result ≡ plane_bytes q }
 {
-    let w0 = joined(q[0], q[4]);
-    let w1 = joined(q[1], q[5]);
-    let w2 = joined(q[2], q[6]);
-    let w3 = joined(q[3], q[7]);
-    [w0, w1, w2, w3]
+    from_fn(|w| joined(q[w], q[w + 4]))
 }
 
 // Each byte of a state on crossed words by the S-box.
@@ -102,6 +70,5 @@ pub fn sub_bytes(w: Columns) -> Columns
 {
     let q = planes(w);
     let r = circuit::circuit(q);
-    let h = low_halves(r);
-    words(h)
+    words(low_halves(r))
 }
