@@ -60,7 +60,9 @@ pause_added_determined κs a z w e f p q = p ∙ sym q
 
 pub mean_with_mean_determined : (κs : _) (a : _) (z w : _) (e f : _) → mean-with-mean.Learnt κs a z e → mean-with-mean.Learnt κs a w f → z ≡ w
 mean_with_mean_determined κs a z w e f p q =
-    ap (λ (r : Report). record { read = r.read; refused = r.refused; sum = r.sum; longest = r.longest; over = r.over; under = r.under }) (p ∙ sym q)
+    ap
+    (λ (r : Report). record { totals = record { read = r.read; refused = r.refused; sum = r.sum; longest = r.longest }; over = r.over; under = r.under })
+    (p ∙ sym q)
 
 pub line_line_length_determined : (κs : _) (a : _) (z w : _) (e f : _) → line-line-length.Learnt κs a z e → line-line-length.Learnt κs a w f → z ≡ w
 line_line_length_determined κs a z w e f p q = p ∙ sym q

@@ -1,3 +1,4 @@
+mod Bytes
 mod OpenedTexts
 mod Taken
 mod Sums

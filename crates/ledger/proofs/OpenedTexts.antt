@@ -24,8 +24,8 @@ use Rattle.laws.proofs.LedgerSums.{IfMark, header_mark_lem}
 use Rattle.settle.specs.declared.Refusal.{Refusal}
 use Rattle.settle.specs.Settled.{settled_opening}
 use Rattle.settle.proofs.Settles.{opening_fits, opening_refused, opening_opened}
-use Rattle.pause_unit.specs.declared.Read.{Read}
-use Rattle.pause_unit.specs.declared.Read.TheVariants as read
+use Rattle.std.specs.Prelude.{None, Some}
+use Rattle.std.specs.Prelude as std
 use Rattle.ledger.specs.Pauses.{taken_as}
 
 -- ---- A string that opens
@@ -71,19 +71,19 @@ module _ (key header : Bytes) (t : ℕ) (C out : Bytes) (key_low : Below 256 key
 
 -- ---- What is longer is no pause
 
-long_text : (header text : Bytes) → 16 < length text → read.Bad ≡ taken_as (pausing header text)
+long_text : (header text : Bytes) → 16 < length text → None ≡ taken_as (pausing header text)
 unfolding pausing
 long_text header text long = with_header (read_header header)
   where
-    by_text : (mark : ℕ) → Mark mark → (x : Option ℕ) → read_pause mark text ≡ x → read.Bad ≡ taken_as (pause_read x)
+    by_text : (mark : ℕ) → Mark mark → (x : Option ℕ) → read_pause mark text ≡ x → None ≡ taken_as (pause_read x)
     by_text mark m none e = refl
     by_text mark m (some n) e = absurd (omega (arith, most_bytes mark m text n e))
 
-    under : (x : Option ℕ) → IfMark x → read.Bad ≡ taken_as (pause_under x text)
+    under : (x : Option ℕ) → IfMark x → None ≡ taken_as (pause_under x text)
     under none m = refl
     under (some mark) m = by_text mark m (read_pause mark text) refl
 
-    with_header : (x : Option (List Bytes)) → read.Bad ≡ taken_as (pause_with x text)
+    with_header : (x : Option (List Bytes)) → None ≡ taken_as (pause_with x text)
     with_header none = refl
     with_header (some ss) = under (header_mark ss) (header_mark_lem ss)
 
@@ -93,7 +93,7 @@ module _ (key header : Bytes) (t : ℕ) (C : Bytes) where
   abbrev opens : OutcomeAt
   opens = opening key header t C (replicate (length C) 0)
 
-  abbrev from_opened : Bool → Read
+  abbrev from_opened : Bool → std.Option ℕ
   from_opened b = taken_as (if b then pausing header (take opens.size opens.output) else no_pause opens.number)
 
   pub by_opened : (b : Bool) → eqb opens.number 0 ≡ b → taken_as (opened_pause key header t C) ≡ from_opened b
@@ -101,18 +101,18 @@ module _ (key header : Bytes) (t : ℕ) (C : Bytes) where
   by_opened b e = ap from_opened e
 
   -- a string that does not open
-  pub unopened : (opens.number ≡ 0 → ⊥) → read.Bad ≡ taken_as (opened_pause key header t C)
-  unopened p = sym (by_opened false (ne_eqb opens.number 0 p) ∙ ap (λ (b : Bool). if b then read.Pause 0 else read.Bad) (ne_eqb opens.number 0 p))
+  pub unopened : (opens.number ≡ 0 → ⊥) → None ≡ taken_as (opened_pause key header t C)
+  unopened p = sym (by_opened false (ne_eqb opens.number 0 p) ∙ ap (λ (b : Bool). if b then Some 0 else None) (ne_eqb opens.number 0 p))
 
   -- where no text under the header is a pause, it makes no difference whether the string opens
-  pub either_way : ((text : Bytes) → opens.number ≡ 0 → take opens.size opens.output ≡ text → read.Bad ≡ taken_as (pausing header text)) → read.Bad ≡ taken_as (opened_pause key header t C)
+  pub either_way : ((text : Bytes) → opens.number ≡ 0 → take opens.size opens.output ≡ text → None ≡ taken_as (pausing header text)) → None ≡ taken_as (opened_pause key header t C)
   either_way p = go (eqb opens.number 0) refl
     where
-      go : (b : Bool) → eqb opens.number 0 ≡ b → read.Bad ≡ taken_as (opened_pause key header t C)
+      go : (b : Bool) → eqb opens.number 0 ≡ b → None ≡ taken_as (opened_pause key header t C)
       go true e = p (take opens.size opens.output) (eqb-true opens.number 0 e) refl ∙ sym (by_opened true e)
       go false e = unopened (eqb-false opens.number 0 e)
 
-  pub too_long_lem : Below 256 key → Below 256 header → Below 256 C → 80 < length C → read.Bad ≡ taken_as (opened_pause key header t C)
+  pub too_long_lem : Below 256 key → Below 256 header → Below 256 C → 80 < length C → None ≡ taken_as (opened_pause key header t C)
   too_long_lem a b c long =
       either_way
       (λ text z e.

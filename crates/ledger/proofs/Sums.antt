@@ -16,11 +16,12 @@ use Rattle.paper.specs.DayFile.{Day, read_day}
 use Rattle.paper.specs.Pause.{Pause, no_pause}
 use Rattle.paper.specs.Ledger.{pause_of, pauses_of, read_count, refused_count, sum_of, longest_of}
 use Rattle.laws.proofs.LedgerSums.{read_or_refused, few_pauses, sum_below}
-use Rattle.pause_unit.specs.declared.Read.{Read}
-use Rattle.pause_unit.specs.declared.Read.TheVariants as read
+use Rattle.std.specs.Prelude.{None, Some}
+use Rattle.std.specs.Prelude as std
+use Rattle.std.specs.Option.{unwrap_or}
 use Rattle.mean.specs.declared.Totals.{Totals}
 use Rattle.day_find.specs.Finds.{records_in}
-use Rattle.pause_sum.specs.Added.{added_to, microseconds_in}
+use Rattle.pause_sum.specs.Added.{added_to}
 use Rattle.ledger.specs.Pauses.{taken_as, pauses_in, totals_of}
 
 max_assoc : (a b c : ℕ) → max a (max b c) ≡ max (max a b) c
@@ -77,10 +78,10 @@ module _ (ps : List Pause) (k : ℕ) (t : Totals) (a : Added ps k t) (more : k <
         ∙ ap (λ (b : Bool). max t.longest (if b then max p.microseconds (longest_of rest) else longest_of rest)) e,
   )
 
-  pub one_added : (r : Read) → r ≡ taken_as p → Added ps (k + 1) (added_to t r)
-  one_added r e = subst (λ (x : Read). Added ps (k + 1) (added_to t x)) (sym e) (go (eqb p.number 0) refl)
+  pub one_added : (r : std.Option ℕ) → r ≡ taken_as p → Added ps (k + 1) (added_to t r)
+  one_added r e = subst (λ (x : std.Option ℕ). Added ps (k + 1) (added_to t x)) (sym e) (go (eqb p.number 0) refl)
     where
-      go : (b : Bool) → eqb p.number 0 ≡ b → Added ps (k + 1) (added_to t (if b then read.Pause p.microseconds else read.Bad))
+      go : (b : Bool) → eqb p.number 0 ≡ b → Added ps (k + 1) (added_to t (if b then Some p.microseconds else None))
       go true f =
           let q = by_number true f in
           record {
@@ -92,10 +93,10 @@ module _ (ps : List Pause) (k : ℕ) (t : Totals) (a : Added ps k t) (more : k <
       go false f = let q = by_number false f in record { read = q.0; refused = omega (arith, q.1); sum = q.2; longest = q.3 }
 
   -- the sum with it is not above that of all
-  pub sum_so_far : (r : Read) → r ≡ taken_as p → t.sum + microseconds_in r ≤ sum_of ps
-  sum_so_far r e = subst (λ (x : Read). t.sum + microseconds_in x ≤ sum_of ps) (sym e) (go (eqb p.number 0) refl)
+  pub sum_so_far : (r : std.Option ℕ) → r ≡ taken_as p → t.sum + unwrap_or r 0 ≤ sum_of ps
+  sum_so_far r e = subst (λ (x : std.Option ℕ). t.sum + unwrap_or x 0 ≤ sum_of ps) (sym e) (go (eqb p.number 0) refl)
     where
-      go : (b : Bool) → eqb p.number 0 ≡ b → t.sum + microseconds_in (if b then read.Pause p.microseconds else read.Bad) ≤ sum_of ps
+      go : (b : Bool) → eqb p.number 0 ≡ b → t.sum + unwrap_or (if b then Some p.microseconds else None) 0 ≤ sum_of ps
       go true f = omega (arith, (by_number true f).2)
       go false f = omega (arith, (by_number false f).2)
 
@@ -107,12 +108,12 @@ pauses_are key none = refl
 pauses_are key (some day) = length-map day.records (pause_of key day)
 
 -- there is room for one record more, and its pause
-pub room : (key f : Bytes) → Below 256 f → (k : ℕ) (t : Totals) → Added (pauses_in key (read_day f)) k t → k < records_in (read_day f) → (r : Read) → r ≡ taken_as (get_or (pauses_in key (read_day f)) k (no_pause 9))
-    → (t.read < 65536) × (t.refused < 65536) × (t.sum + microseconds_in r < 18446744073709551616)
+pub room : (key f : Bytes) → Below 256 f → (k : ℕ) (t : Totals) → Added (pauses_in key (read_day f)) k t → k < records_in (read_day f) → (r : std.Option ℕ) → r ≡ taken_as (get_or (pauses_in key (read_day f)) k (no_pause 9))
+    → (t.read < 65536) × (t.refused < 65536) × (t.sum + unwrap_or r 0 < 18446744073709551616)
 room key f low k t a p r e = go (read_day f) refl a p e
   where
     go : (o : Option Day) → read_day f ≡ o → Added (pauses_in key o) k t → k < records_in o → r ≡ taken_as (get_or (pauses_in key o) k (no_pause 9))
-        → (t.read < 65536) × (t.refused < 65536) × (t.sum + microseconds_in r < 18446744073709551616)
+        → (t.read < 65536) × (t.refused < 65536) × (t.sum + unwrap_or r 0 < 18446744073709551616)
     go none q a p e = absurd (omega arith)
     go (some day) q a p e =
         let ps = pauses_of key day in

@@ -4,21 +4,22 @@ use mathlib.Core.List.{List, [], ◌∷◌, map}
 use mathlib.Core.Option.{Option, none, some}
 use mathlib.Core.Path.{◌≡◌, refl, ap, sym, ◌∙◌}
 use Prim.Native.Nat.{ℕ, zero, suc, ◌-◌, ◌≤◌}
-use native.Mathlib.Nat.{sub-zero}
 use native.Mathlib.Omega.{arith}
 use borrow.Author.Tests.{eq-eqb}
 use lib.ListN.{length, get_or, take, drop, replicate, get_elem?}
 use Rattle.paper.specs.Strings.{Bytes, Below}
 use Rattle.paper.specs.Document01.{OutcomeAt, read_header, opening}
 use Rattle.paper.specs.DayFile.{Record, Day, read_day}
-use Rattle.paper.specs.Pause.{Pause, no_pause, header_mark, read_pause, pause_read, pausing}
+use Rattle.paper.specs.Pause.{Pause, no_pause, read_pause, pause_read, pausing}
 use Rattle.paper.specs.Ledger.{opened_pause, pause_of, pauses_of}
 use Rattle.answer.specs.Outcomes.{outcome_at}
 use Rattle.answer.specs.declared.AnswerAt.{AnswerAt}
-use Rattle.pause_mark.specs.declared.Mark.TheVariants as mark
-use Rattle.pause_unit.specs.declared.Read.TheVariants as read
+use Rattle.std.specs.Prelude.{None, Some, Result, Ok, Err}
+use Rattle.std.specs.Result.{result_ok}
+use Rattle.pause_mark.specs.declared.NoMark.{NoMark}
+use Rattle.pause_mark.specs.declared.NoMark.TheVariants.{Header, Locale}
 use Rattle.pause_unit.specs.Answers.{read_as}
-use Rattle.pause_mark.specs.Marks.{known_as, mark_as}
+use Rattle.pause_mark.specs.Marks.{mark_as}
 use Rattle.pause.proofs.Fields.{by_mark}
 use Rattle.day_find.specs.declared.Found.{Found}
 use Rattle.day_find.specs.Finds.{found_in}
@@ -33,36 +34,41 @@ taken_text : (x : Option ℕ) → taken_as (pause_read x) ≡ read_as x
 taken_text none = refl
 taken_text (some n) = refl
 
--- a header's refusal is no 0
-refused_by_lem : (x : Option (List Bytes)) (n : ℕ) → mark.Refused n ≡ mark_as x → read.Bad ≡ taken_as (no_pause n)
-refused_by_lem none n e = let is : n ≡ 3 = cc in ap (λ (k : ℕ). taken_as (no_pause k)) (sym is)
-refused_by_lem (some ss) n e = known (header_mark ss) e
-  where
-    known : (y : Option ℕ) → mark.Refused n ≡ known_as y → read.Bad ≡ taken_as (no_pause n)
-    known none f = let is : n ≡ 15 = cc in ap (λ (k : ℕ). taken_as (no_pause k)) (sym is)
-    known (some m) f = cc
-
 module _ (key header : Bytes) (t : ℕ) (C : Bytes) where
-  pub no_locale : (n : ℕ) → mark.Refused n ≡ mark_as (read_header header) → read.Bad ≡ taken_as (opened_pause key header t C)
-  no_locale n e = either_way key header t C (λ text z f. refused_by_lem (read_header header) n e ∙ ap taken_as (sym (by_mark header text (mark.Refused n) e)))
+  pub no_locale : (e : NoMark) → Err e ≡ mark_as (read_header header) → None ≡ taken_as (opened_pause key header t C)
+  no_locale Header e = either_way key header t C (λ text z f. ap taken_as (sym (by_mark header text (Err Header) e)))
+  no_locale Locale e = either_way key header t C (λ text z f. ap taken_as (sym (by_mark header text (Err Locale) e)))
 
   -- an answer over an output of zeros, of just the string's length
   module _ (a : AnswerAt) (last out : Bytes) (zeros : out ≡ replicate (length C) 0) (call : outcome_at a last ≡ opening key header t C out) where
     is_opening : outcome_at a last ≡ opening key header t C (replicate (length C) 0)
     is_opening = call ∙ ap (opening key header t C) zeros
 
-    pub no_text : (a.number ≡ 0 → ⊥) → read.Bad ≡ taken_as (opened_pause key header t C)
+    pub no_text : (a.number ≡ 0 → ⊥) → None ≡ taken_as (opened_pause key header t C)
     no_text p = unopened key header t C (λ e. p (ap (λ (o : OutcomeAt). o.number) is_opening ∙ e))
 
-    pub by_text : a.number ≡ 0 → (m : ℕ) → mark.Is m ≡ mark_as (read_header header) → (text : Bytes) → text ≡ take a.length last
+    pub by_text : a.number ≡ 0 → (m : ℕ) → Ok m ≡ mark_as (read_header header) → (text : Bytes) → text ≡ take a.length last
         → read_as (read_pause m text) ≡ taken_as (opened_pause key header t C)
     by_text z m k text e =
         let o = opening key header t C (replicate (length C) 0) in
         let front : text ≡ take o.size o.output = e ∙ (λ i. take (is_opening i).size (is_opening i).output) in
         sym (taken_text (read_pause m text))
-        ∙ ap taken_as (sym (by_mark header text (mark.Is m) k))
+        ∙ ap taken_as (sym (by_mark header text (Ok m) k))
         ∙ ap (λ (X : Bytes). taken_as (pausing header X)) front
         ∙ sym (by_opened key header t C true (eq-eqb o.number 0 (sym (ap (λ (x : OutcomeAt). x.number) is_opening) ∙ z)))
+
+-- by whether the header has a mark
+module _ (key header : Bytes) (t : ℕ) (C : Bytes) where
+  pub none_marked : (r : Result ℕ NoMark) → r ≡ mark_as (read_header header) → result_ok r ≡ None → None ≡ taken_as (opened_pause key header t C)
+  none_marked (Err n) e f = no_locale key header t C n e
+  none_marked (Ok m) e f = cc
+
+pub some_marked : (header : Bytes) (m : ℕ) (r : Result ℕ NoMark) → r ≡ mark_as (read_header header) → result_ok r ≡ Some m → Ok m ≡ mark_as (read_header header)
+some_marked header m (Err n) e f = cc
+some_marked header m (Ok k) e f = let same : k ≡ m = cc in ap (λ (n : ℕ). ok n) (sym same) ∙ e
+  where
+    ok : ℕ → Result ℕ NoMark
+    ok n = Ok n
 
 -- ---- Record k of a file
 
@@ -81,10 +87,7 @@ found_pause key f low records k s found e =
 
 -- ---- The buffer
 
-take_zeros : (n m : ℕ) → n ≤ m → ◌≡◌ {A = Bytes} (take n (replicate m 0)) (replicate n 0)
+pub take_zeros : (n m : ℕ) → n ≤ m → ◌≡◌ {A = Bytes} (take n (replicate m 0)) (replicate n 0)
 take_zeros zero m p = refl
 take_zeros (suc n) zero p = absurd (omega arith)
 take_zeros (suc n) (suc m) p = ap (λ (X : Bytes). 0 ∷ X) (take_zeros n m (omega arith))
-
-pub front_zeros : (n : ℕ) → n ≤ 80 → ◌≡◌ {A = Bytes} (take (n - 0) (replicate 80 0)) (replicate n 0)
-front_zeros n p = ap (λ (k : ℕ). take {A = ℕ} k (replicate 80 0)) (sub-zero n) ∙ take_zeros n 80 p

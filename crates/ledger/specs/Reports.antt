@@ -11,7 +11,11 @@ use Rattle.ledger.specs.declared.Told.TheVariants as told
 
 -- the definition's report as `line` has it
 abbrev pub report_as : paper.Report → Report
-report_as r = record { read = r.read; refused = r.refused; sum = r.sum; longest = r.longest; over = r.over; under = r.under }
+report_as r = record {
+  totals = record { read = r.read; refused = r.refused; sum = r.sum; longest = r.longest };
+  over = r.over;
+  under = r.under;
+}
 
 -- 9, then 1, then the report
 abbrev pub reported_as : Bytes → Option Day → Told

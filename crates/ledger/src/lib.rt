@@ -17,8 +17,6 @@ ghost use Rattle.ledger.specs.Reports.{reported_as};
 
 use answer::{Answer, StretchBytes};
 use mean::{Report, Totals};
-use pause_mark::Mark;
-use pause_unit::Read;
 
 // The report of a file, or the number by which it is refused.
 #[derive(Clone, Copy)]
@@ -28,49 +26,52 @@ enum Told {
 }
 
 // The pause of a sealed string under a header with this mark, opened into a buffer of just its length.
-fn open_in(key: &[u8], header: &[u8], stretch: u64, sealed: &[u8], mark: u8, out: &mut [u8]) -> Read
-    requires { (Mark.Is mark ≡ mark_as (read_header header.now)) × (out.old ≡ replicate (length sealed.now) 0) }
+fn open_in(
+    key: &[u8],
+    header: &[u8],
+    stretch: u64,
+    sealed: &[u8],
+    mark: u8,
+    out: &mut [u8],
+) -> Option<u64>
+    requires { (Ok mark ≡ mark_as (read_header header.now)) × (out.old ≡ replicate (length sealed.now) 0) }
     ensures { result ≡ taken_as (opened_pause key.now header.now stretch sealed.now) }
 {
     let answer = record::open(key, header, StretchBytes(stretch), sealed, &mut *out);
     if answer.number != 0 {
-        return Read::Bad;
+        return None;
     }
-    let length = answer.length;
-    pause_text::read_text(mark, &out[0..length])
+    pause_text::read_text(mark, &out[..answer.length])
 }
+
+// The longest sealed string that is opened.
+const LONGEST: usize = 80;
 
 // The pause of a sealed string under a header. A pause has at most 16 bytes and a stretch at most 64, so a longer string is refused unopened:
 // whether it opens makes no difference. Nor does it where the locale is refused.
-fn pause_of(key: &[u8], header: &[u8], stretch: u64, sealed: &[u8]) -> Read
+fn pause_of(key: &[u8], header: &[u8], stretch: u64, sealed: &[u8]) -> Option<u64>
     ensures { result ≡ taken_as (opened_pause key.now header.now stretch sealed.now) }
 {
     let n = sealed.len();
-    if 80 < n {
-        return Read::Bad;
+    if LONGEST < n {
+        return None;
     }
-    let Mark::Is(mark) = pause_mark::header_mark(header) else {
-        return Read::Bad;
-    };
-    let mut buffer = [0u8; 80];
-    open_in(key, header, stretch, sealed, mark, &mut buffer[0..n])
+    let mark = pause_mark::header_mark(header).ok()?;
+    let mut buffer = [0u8; LONGEST];
+    open_in(key, header, stretch, sealed, mark, &mut buffer[..n])
 }
 
 // The pause of record k.
-fn pause_at(key: &[u8], file: &[u8], marks: &[u32; 205], records: usize, k: usize) -> Read
+fn pause_at(key: &[u8], file: &[u8], marks: &[u32; 205], records: usize, k: usize) -> Option<u64>
     requires { (marks.now ≡ marks_of (read_day file.now)) × (records ≡ records_in (read_day file.now)) × (k < records) }
     ensures { result ≡ taken_as (pause_at key.now (read_day file.now) k) }
 {
     let f = day_marks::find(file, marks, records, k);
-    let header_start = f.header_start;
-    let header_end = f.header_end;
-    let start = f.start;
-    let end = f.end;
     pause_of(
         key,
-        &file[header_start..header_end],
+        &file[f.header_start..f.header_end],
         f.stretch,
-        &file[start..end],
+        &file[f.start..f.end],
     )
 }
 
@@ -86,23 +87,19 @@ fn totals(key: &[u8], file: &[u8], headers: usize, records: usize) -> Totals
         sum: 0,
         longest: 0,
     };
-    let mut k: usize = 0;
-    while k < records {
-        let pause = pause_at(key, file, &marks, records, k);
-        let more = pause_sum::added(t, pause);
-        t = more;
-        k += 1;
+    for k in 0..records {
+        t = pause_sum::added(t, pause_at(key, file, &marks, records, k));
     }
     t
 }
 
 // The report of a file that reads and has so many headers and records.
+#[tactic(auto, unfolding(paper::specs::Ledger::report_of))]
 fn report_of(key: &[u8], file: &[u8], headers: usize, records: usize) -> Report
     requires { (headers ≡ headers_in (read_day file.now)) × (records ≡ records_in (read_day file.now)) }
     ensures { meaning result ≡ report_of (pauses_in key.now (read_day file.now)) }
 {
-    let t = totals(key, file, headers, records);
-    mean::with_mean(t)
+    mean::with_mean(totals(key, file, headers, records))
 }
 
 // The report of a file, or the number by which it is refused: 9, then 1. The key's length is tested also where there is no record.

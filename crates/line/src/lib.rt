@@ -52,10 +52,10 @@ fn put_field(out: &mut [u8], at: usize, n: u64, after: u8) -> usize
 pub fn line_length(r: Report) -> usize
     ensures { result ≡ length (line_of (meaning r)) }
 {
-    let read = decimal_length(r.read);
-    let refused = decimal_length(r.refused);
-    let sum = decimal_length(r.sum);
-    let longest = decimal_length(r.longest);
+    let read = decimal_length(r.totals.read);
+    let refused = decimal_length(r.totals.refused);
+    let sum = decimal_length(r.totals.sum);
+    let longest = decimal_length(r.totals.longest);
     let over = decimal_length(r.over);
     let under = decimal_length(r.under);
     read + refused + sum + longest + over + under + 6
@@ -66,10 +66,10 @@ pub fn put_line(r: Report, out: &mut [u8])
     requires { length (line_of (meaning r)) ≤ length out.old }
     ensures { out.new ≡ placed 0 (line_of (meaning r)) out.old }
 {
-    let second = put_field(out, 0, r.read, b' ');
-    let third = put_field(out, second, r.refused, b' ');
-    let fourth = put_field(out, third, r.sum, b' ');
-    let fifth = put_field(out, fourth, r.longest, b' ');
+    let second = put_field(out, 0, r.totals.read, b' ');
+    let third = put_field(out, second, r.totals.refused, b' ');
+    let fourth = put_field(out, third, r.totals.sum, b' ');
+    let fifth = put_field(out, fourth, r.totals.longest, b' ');
     let sixth = put_field(out, fifth, r.over, b'/');
     put_field(out, sixth, r.under, b'\n');
 }

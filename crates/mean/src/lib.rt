@@ -18,50 +18,51 @@ pub struct Totals {
 // The totals, and the mean's fraction.
 #[derive(Clone, Copy)]
 pub struct Report {
-    pub read: u64,
-    pub refused: u64,
-    pub sum: u64,
-    pub longest: u64,
+    pub totals: Totals,
     pub over: u64,
     pub under: u64,
 }
 
+impl Report {
+    // The six numbers in the order of the line.
+    #[tactic(auto, unfolding(paper::specs::Ledger::figures_of))]
+    pub fn figures(self) -> [u64; 6]
+        ensures { result ≡ figures_of (meaning self) }
+    {
+        let t = self.totals;
+        [t.read, t.refused, t.sum, t.longest, self.over, self.under]
+    }
+}
+
 // The greatest common divisor, by Euclid.
+#[tactic(auto, using(laws::proofs::Means::gcd_step, laws::proofs::Means::gcd_end))]
 fn divisor(a: u64, b: u64) -> u64
     ensures { result ≡ gcd a b }
 {
-    let mut x = a;
-    let mut y = b;
+    let (mut x, mut y) = (a, b);
     while y != 0 {
-        let rest = x % y;
-        x = y;
-        y = rest;
+        (x, y) = (y, x % y);
     }
     x
 }
 
 // The report of some totals: their mean is 0/1 where nothing was read.
-pub fn with_mean(t: Totals) -> Report
-    ensures { meaning result ≡ with_mean t }
+#[tactic(auto, using(laws::proofs::Means::mean_none, laws::proofs::Means::mean_some, laws::proofs::Means::gcd_positive))]
+pub fn with_mean(totals: Totals) -> Report
+    ensures { meaning result ≡ with_mean totals }
 {
-    if t.read == 0 {
+    if totals.read == 0 {
         return Report {
-            read: t.read,
-            refused: t.refused,
-            sum: t.sum,
-            longest: t.longest,
+            totals,
             over: 0,
             under: 1,
         };
     }
-    let d = divisor(t.sum, t.read);
+    let d = divisor(totals.sum, totals.read);
     Report {
-        read: t.read,
-        refused: t.refused,
-        sum: t.sum,
-        longest: t.longest,
-        over: t.sum / d,
-        under: t.read / d,
+        totals,
+        over: totals.sum / d,
+        under: totals.read / d,
     }
 }
 
@@ -70,10 +71,5 @@ pub fn put_figures(r: Report, out: &mut [u64])
     requires { 6 ≤ length out.old }
     ensures { out.new ≡ placed 0 (figures_of (meaning r)) out.old }
 {
-    out[0] = r.read;
-    out[1] = r.refused;
-    out[2] = r.sum;
-    out[3] = r.longest;
-    out[4] = r.over;
-    out[5] = r.under;
+    out[..6].copy_from_slice(&r.figures());
 }

@@ -5,8 +5,7 @@ ghost use Rattle.std.specs.Prelude.{◌≡◌};
 ghost use Rattle.paper.specs.Pause.{pausing};
 ghost use Rattle.pause.specs.Fields.{field_of};
 
-use pause_mark::Mark;
-use pause_unit::Read;
+use pause_mark::NoMark;
 
 // 0 and the microseconds, or a refusal's number and 0.
 #[derive(Clone, Copy)]
@@ -19,20 +18,25 @@ pub struct Field {
 pub fn read_field(header: &[u8], text: &[u8]) -> Field
     ensures { field_of result ≡ pausing header.now text.now }
 {
-    match pause_mark::header_mark(header) {
-        Mark::Refused(number) => Field {
-            number,
+    let mark = match pause_mark::header_mark(header) {
+        Ok(mark) => mark,
+        Err(NoMark::Header) => return Field {
+            number: 3,
             microseconds: 0,
         },
-        Mark::Is(mark) => match pause_text::read_text(mark, text) {
-            Read::Bad => Field {
-                number: 16,
-                microseconds: 0,
-            },
-            Read::Pause(microseconds) => Field {
-                number: 0,
-                microseconds,
-            },
+        Err(NoMark::Locale) => return Field {
+            number: 15,
+            microseconds: 0,
+        },
+    };
+    match pause_text::read_text(mark, text) {
+        Some(microseconds) => Field {
+            number: 0,
+            microseconds,
+        },
+        None => Field {
+            number: 16,
+            microseconds: 0,
         },
     }
 }

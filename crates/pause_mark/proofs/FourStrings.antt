@@ -16,12 +16,10 @@ use Rattle.paper.specs.Document01.{Read, as_strings, bad_entry, reading, strings
 use Rattle.paper.specs.Pause.{header_mark, mark_of}
 use Rattle.laws.proofs.Headers.{AllFit, read_write, read_readable}
 use Rattle.laws.proofs.DayWritten.{strings_long}
-use Rattle.laws.proofs.LedgerSums.{IfMark, mark_of_lem}
 use Rattle.header.specs.declared.Place.{Place}
 use Rattle.header.specs.declared.BadEntry.{BadEntry}
 use Rattle.header.specs.Places.{size_at, entry_at, read_as}
-use Rattle.pause_mark.specs.declared.Mark.TheVariants as mark
-use Rattle.pause_unit.specs.Answers.{or_zero}
+use Rattle.pause_mark.specs.declared.NoMark.TheVariants as no_mark
 use Rattle.pause_mark.specs.Marks.{known_as, mark_as}
 
 -- ---- What the header's reader says
@@ -34,11 +32,11 @@ strings_read h n e = go (reading h) e
     go (bad_entry k) e = absurd (let z : ◌≡◌ {A = ℕ} 0 1 = cc in omega arith)
     go (as_strings ss) e = (ss, refl, cc)
 
-pub not_read : (h : Bytes) (k : BadEntry) → Err k ≡ read_as (reading h) → mark.Refused 3 ≡ mark_as (read_header h)
+pub not_read : (h : Bytes) (k : BadEntry) → Err k ≡ read_as (reading h) → Err no_mark.Header ≡ mark_as (read_header h)
 unfolding read_header
 not_read h k e = go (reading h) e
   where
-    go : (r : Read) → Err k ≡ read_as r → mark.Refused 3 ≡ mark_as (strings_of r)
+    go : (r : Read) → Err k ≡ read_as r → Err no_mark.Header ≡ mark_as (strings_of r)
     go (bad_entry j) e = refl
     go (as_strings ss) e = cc
 
@@ -62,7 +60,7 @@ not_four (a ∷ b ∷ c ∷ []) p = refl
 not_four (a ∷ b ∷ c ∷ d ∷ []) p = absurd (p refl)
 not_four (a ∷ b ∷ c ∷ d ∷ s ∷ ss) p = refl
 
-pub other_count : (o : Option (List Bytes)) (ss : List Bytes) → o ≡ some ss → (length ss ≡ 4 → ⊥) → mark.Refused 15 ≡ mark_as o
+pub other_count : (o : Option (List Bytes)) (ss : List Bytes) → o ≡ some ss → (length ss ≡ 4 → ⊥) → Err no_mark.Locale ≡ mark_as o
 other_count o ss e p = sym (ap mark_as e ∙ ap known_as (not_four ss p))
 
 -- ---- An entry
@@ -165,21 +163,5 @@ module _ (h : Bytes) (low : Below 256 h) (i at : ℕ) (few : i < 4) (w : Walked 
         (λ j. take (long j) (drop (start_is j) h)) ∙ string_there h at own (drop (suc i) w.strings) own_there own_short
 
 -- the mark of the fourth string
-module _ (h part : Bytes) (w : List Bytes) (reads : read_header h ≡ some w) (four : length w ≡ 4) (is : part ≡ get_or w 3 []) where
-  marked_by : mark_as (read_header h) ≡ known_as (mark_of part)
-  marked_by = ap mark_as reads ∙ ap known_as (fourth w four ∙ ap mark_of (sym is))
-
-  -- 0 is no mark of the table
-  pub unknown : (m : ℕ) → m ≡ or_zero (mark_of part) → m ≡ 0 → mark.Refused 15 ≡ mark_as (read_header h)
-  unknown m e z = go (mark_of part) (mark_of_lem part) (sym e ∙ z) ∙ sym marked_by
-    where
-      go : (o : Option ℕ) → IfMark o → or_zero o ≡ 0 → mark.Refused 15 ≡ known_as o
-      go none k f = refl
-      go (some n) k f = absurd (k.no_zero f)
-
-  pub known : (m : ℕ) → m ≡ or_zero (mark_of part) → (m ≡ 0 → ⊥) → mark.Is m ≡ mark_as (read_header h)
-  known m e z = go (mark_of part) e ∙ sym marked_by
-    where
-      go : (o : Option ℕ) → m ≡ or_zero o → mark.Is m ≡ known_as o
-      go none f = absurd (z f)
-      go (some n) f = ap (λ (k : ℕ). mark.Is k) f
+pub marked_by : (h part : Bytes) (w : List Bytes) → read_header h ≡ some w → length w ≡ 4 → part ≡ get_or w 3 [] → mark_as (read_header h) ≡ known_as (mark_of part)
+marked_by h part w reads four is = ap mark_as reads ∙ ap known_as (fourth w four ∙ ap mark_of (sym is))

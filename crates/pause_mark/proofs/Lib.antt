@@ -1,2 +1,2 @@
-mod Table
+mod Locales
 mod FourStrings

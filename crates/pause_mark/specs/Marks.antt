@@ -1,17 +1,18 @@
 -- What is answered for a header, by its locale.
-use Rattle.std.specs.Prelude.{List, ℕ}
+use Rattle.std.specs.Prelude.{List, ℕ, Result, Err}
+use Rattle.std.specs.Option.{ok_or}
 use Rattle.std.proofs.Math.Option.{Option, none, some}
 use Rattle.paper.specs.Strings.{Bytes}
 use Rattle.paper.specs.Pause.{header_mark}
-use Rattle.pause_mark.specs.declared.Mark.{Mark}
-use Rattle.pause_mark.specs.declared.Mark.TheVariants as mark
+use Rattle.pause_unit.specs.Answers.{read_as}
+use Rattle.pause_mark.specs.declared.NoMark.{NoMark}
+use Rattle.pause_mark.specs.declared.NoMark.TheVariants.{Header, Locale}
 
--- 15, then the mark
-abbrev pub known_as : Option ℕ → Mark
-known_as none = mark.Refused 15
-known_as (some m) = mark.Is m
+-- the locale, then the mark
+abbrev pub known_as : Option ℕ → Result ℕ NoMark
+known_as mark = ok_or (read_as mark) Locale
 
--- 3, then the locale
-abbrev pub mark_as : Option (List Bytes) → Mark
-mark_as none = mark.Refused 3
+-- the header, then the locale
+abbrev pub mark_as : Option (List Bytes) → Result ℕ NoMark
+mark_as none = Err Header
 mark_as (some strings) = known_as (header_mark strings)

@@ -1,42 +1,26 @@
 // The totals of pauses with one pause more, request E12.
 #![tactic(auto)]
 
-ghost use Rattle.std.specs.Prelude.{◌≡◌, ◌+◌, ◌<◌, max};
-ghost use Rattle.pause_sum.specs.Added.{added_to, microseconds_in};
+ghost use Rattle.std.specs.Prelude.{◌≡◌, ◌+◌, ◌<◌, unwrap_or};
+ghost use Rattle.pause_sum.specs.Added.{added_to};
 
 use mean::Totals;
-use pause_unit::Read;
 
-// The larger of two numbers.
-fn larger(a: u64, b: u64) -> u64
-    ensures { result ≡ max a b }
-{
-    if a < b {
-        return b;
-    }
-    a
-}
-
-// The totals with one record more.
-pub fn added(t: Totals, pause: Read) -> Totals
-    requires { (t.read < 65536) × (t.refused < 65536) × (t.sum + microseconds_in pause < 18446744073709551616) }
+// The totals with one record more: its pause, or that it was refused.
+pub fn added(t: Totals, pause: Option<u64>) -> Totals
+    requires { (t.read < 65536) × (t.refused < 65536) × (t.sum + unwrap_or pause 0 < 18446744073709551616) }
     ensures { result ≡ added_to t pause }
 {
     match pause {
-        Read::Bad => Totals {
-            read: t.read,
+        None => Totals {
             refused: t.refused + 1,
-            sum: t.sum,
-            longest: t.longest,
+            ..t
         },
-        Read::Pause(n) => {
-            let longest = larger(t.longest, n);
-            Totals {
-                read: t.read + 1,
-                refused: t.refused,
-                sum: t.sum + n,
-                longest,
-            }
-        }
+        Some(n) => Totals {
+            read: t.read + 1,
+            sum: t.sum + n,
+            longest: t.longest.max(n),
+            ..t
+        },
     }
 }

@@ -1,96 +1,57 @@
--- Walks over a text: its digits from a place on, and the number that they represent.
-use mathlib.Core.Bool.{true, false}
-use mathlib.Core.List.{[], ◌∷◌}
-use mathlib.Core.Path.{◌≡◌, ap, sym, subst, ◌∙◌}
-use Prim.Native.Nat.{ℕ, zero, suc, ◌+◌, ◌-◌, ◌*◌, ◌^◌, ◌≤◌, ◌<◌}
-use native.Mathlib.Nat.{mul-le-mul, pow-le-pow_right}
-use native.Mathlib.Numerals.{add-one}
-use native.Mathlib.Omega.{arith}
-use lib.ListN.{length, get_or, take, drop, replicate, length-drop, drop_of_length-le}
-use lib.Seq.{drop-cons, take-suc, take-take, get_or-take, get_or-drop, length-take-le}
+-- The digits of a text, and the number that they represent.
+use Rattle.std.proofs.Common.{true, ◌≡◌, refl, ap, ◌∙◌, ℕ, ◌+◌, ◌-◌, ◌*◌, ◌^◌, ◌<◌, ◌≤◌, [], ◌∷◌, length, get_or, take, arith, add-one}
+use Rattle.std.proofs.Math.Seq.{take-suc, length-take-le}
+use Rattle.std.proofs.Math.Nat.{mul-le-mul, pow-le-pow_right}
+use Rattle.std.specs.Char.{is_ascii_digit}
+use Rattle.std.specs.List.{prefix_len, AllPass}
+use Rattle.std.proofs.lemmas.Grind.{common_steps}
+use Rattle.std.proofs.lemmas.List.Elements.{All-head, All-tail, All-take, All-nil, All-cons}
 use Rattle.paper.specs.Strings.{Bytes}
 use Rattle.paper.specs.Pause.{is_digit, digits_first, decimal_after}
-use Rattle.laws.proofs.PauseSteps.{AllDigits, digit_bounds, digits_more, digits_end, no_digits, digits_front, digits_within, decimal_append, decimal_one, decimal_below}
+use Rattle.laws.proofs.PauseSteps.{AllDigits, digits_front, decimal_append, decimal_one, decimal_below}
 
--- ---- The digits from a place on
+-- the library's digits are the definition's
+pub digits_counted : (X : Bytes) → prefix_len is_ascii_digit X ≡ digits_first X
+unfolding digits_first
+digits_counted [] = refl
+digits_counted (b ∷ X) = grind (arith, common_steps, digits_counted X)
 
-module _ (X : Bytes) (at : ℕ) where
-  pub digit_here : at < length X → is_digit (get_or X at 0) ≡ true → digits_first (drop at X) ≡ suc (digits_first (drop (at + 1) X))
-  digit_here p d =
-      ap digits_first (drop-cons X at 0 p)
-      ∙ digits_more (get_or X at 0) (drop (suc at) X) d
-      ∙ ap (λ (n : ℕ). suc (digits_first (drop n X))) (sym (add-one at))
+-- ---- Digits by their places and one by one
 
-  pub none_here : at < length X → is_digit (get_or X at 0) ≡ false → digits_first (drop at X) ≡ 0
-  none_here p d = ap digits_first (drop-cons X at 0 p) ∙ digits_end (get_or X at 0) (drop (suc at) X) d
+abbrev Digit : ℕ → Type 0
+Digit b = is_digit b ≡ true
 
-  pub none_left : length X ≤ at → digits_first (drop at X) ≡ 0
-  none_left p = ap digits_first (drop_of_length-le X p) ∙ no_digits
+one_by_one : (X : Bytes) → AllPass is_digit X → AllDigits X
+one_by_one [] p = tt
+one_by_one (b ∷ X) p = (All-head Digit b X p, one_by_one X (All-tail Digit b X p))
 
--- an entry of digits is a digit
-entry_digit : (X : Bytes) (i : ℕ) → AllDigits X → i < length X → is_digit (get_or X i 0) ≡ true
-entry_digit [] i p q = absurd (omega arith)
-entry_digit (b ∷ X) zero p q = p.0
-entry_digit (b ∷ X) (suc i) p q = entry_digit X i p.1 (omega arith)
+by_places : (X : Bytes) → AllDigits X → AllPass is_digit X
+by_places [] p = All-nil Digit
+by_places (b ∷ X) p = All-cons Digit b X p.0 (by_places X p.1)
 
-take_digits : (k : ℕ) (X : Bytes) → AllDigits X → AllDigits (take k X)
-take_digits zero X p = tt
-take_digits (suc k) [] p = tt
-take_digits (suc k) (b ∷ X) p = (p.0, take_digits k X p.1)
+pub digits_pass : (X : Bytes) → AllPass is_digit (take (digits_first X) X)
+digits_pass X = by_places (take (digits_first X) X) (digits_front X)
 
-module _ (text : Bytes) (from : ℕ) where
-  abbrev X : Bytes
-  X = drop from text
-
-  -- they lie within the text
-  pub digits_inside : from ≤ length text → from + digits_first X ≤ length text
-  digits_inside p = omega (arith, digits_within X, length-drop from text)
-
-  pub digit_there : (at : ℕ) → from ≤ at → at < from + digits_first X → (48 ≤ get_or text at 0) × (get_or text at 0 ≤ 57)
-  digit_there at p q =
-      let front = take (digits_first X) X in
-      let long : length front ≡ digits_first X = length-take-le (digits_first X) X (digits_within X) in
-      let there : get_or front (at - from) 0 ≡ get_or text at 0 =
-      get_or-take (digits_first X) X (at - from) 0 (omega arith) ∙ get_or-drop from text (at - from) 0 ∙ (let e : from + (at - from) ≡ at = omega arith in ap (λ (n : ℕ). get_or text n 0) e) in
-      digit_bounds (get_or text at 0) (subst (λ (b : ℕ). is_digit b ≡ true) there (entry_digit front (at - from) (digits_front X) (omega (arith, long))))
-
--- the first k of the digits
-pub front_digits : (X : Bytes) (k : ℕ) → k ≤ digits_first X → AllDigits (take k X)
-front_digits X k p = subst AllDigits (take-take k (digits_first X) X p) (take_digits k (take (digits_first X) X) (digits_front X))
-
--- ---- The number of at most nine digits after n
-
--- below n + 1 with nine zeros
-pub number_below : (n k m : ℕ) (X : Bytes) → k ≤ digits_first X → k ≤ m → decimal_after n (take k X) < (n + 1) * 10 ^ m
-number_below n k m X p q =
-    let long : length (take k X) ≡ k = length-take-le k X (omega (arith, digits_within X)) in
-    let b = decimal_below n (take k X) (front_digits X k p) in
-    let w : (n + 1) * 10 ^ length (take k X) ≤ (n + 1) * 10 ^ m = mul-le-mul {n₁ = n + 1} (omega arith) (pow-le-pow_right {n = 10} (omega arith) (omega (arith, long))) in
-    omega (arith, b, w)
+-- ---- The number of some digits after n
 
 -- one digit more
-pub number_more : (n : ℕ) (text : Bytes) (from at : ℕ) → from ≤ at → at < length text
-    → decimal_after n (take (at + 1 - from) (drop from text)) ≡ decimal_after n (take (at - from) (drop from text)) * 10 + (get_or text at 0 - 48)
-number_more n text from at p q =
-    let X = drop from text in
-    let k : at + 1 - from ≡ suc (at - from) = omega arith in
-    let e : from + (at - from) ≡ at = omega arith in
-    ap (λ (j : ℕ). decimal_after n (take j X)) k
-    ∙ ap (decimal_after n) (take-suc X (at - from) 0 (omega (arith, length-drop from text)))
-    ∙ decimal_append n (take (at - from) X) (get_or X (at - from) 0 ∷ [])
-    ∙ decimal_one (decimal_after n (take (at - from) X)) (get_or X (at - from) 0)
-    ∙ ap (λ (b : ℕ). decimal_after n (take (at - from) X) * 10 + (b - 48)) (get_or-drop from text (at - from) 0 ∙ ap (λ (j : ℕ). get_or text j 0) e)
+pub decimal_more : (n : ℕ) (X : Bytes) (i : ℕ) → i < length X → decimal_after n (take (i + 1) X) ≡ decimal_after n (take i X) * 10 + (get_or X i 0 - 48)
+decimal_more n X i p =
+    ap (λ k. decimal_after n (take k X)) (add-one i)
+    ∙ ap (decimal_after n) (take-suc X i 0 p)
+    ∙ decimal_append n (take i X) (get_or X i 0 ∷ [])
+    ∙ decimal_one (decimal_after n (take i X)) (get_or X i 0)
 
--- ---- Zeros after a number
+-- below n + 1 with as many zeros, or more
+pub decimal_limit : (n m : ℕ) (X : Bytes) → AllPass is_digit X → length X ≤ m → decimal_after n X < (n + 1) * 10 ^ m
+decimal_limit n m X d h =
+    let most : (n + 1) * 10 ^ length X ≤ (n + 1) * 10 ^ m = mul-le-mul {n₁ = n + 1} {n₂ = n + 1} (omega arith) (pow-le-pow_right {n = 10} (omega arith) h) in
+    omega (arith, decimal_below n X (one_by_one X d), most)
 
-pub zeros_3 : (n : ℕ) → decimal_after n (replicate 3 48) ≡ n * 1000
-unfolding decimal_after
-zeros_3 n = omega arith
+-- at most nine digits
+pub decimal_small : (n : ℕ) (X : Bytes) (i : ℕ) → length X ≤ 9 → AllPass is_digit X → i ≤ length X → decimal_after n (take i X) < (n + 1) * 1000000000
+decimal_small n X i q d h = omega (arith, decimal_limit n 9 (take i X) (All-take Digit i X d) (omega (arith, length-take-le i X h)))
 
-pub zeros_2 : (n : ℕ) → decimal_after n (replicate 2 48) ≡ n * 100
-unfolding decimal_after
-zeros_2 n = omega arith
-
-pub zeros_1 : (n : ℕ) → decimal_after n (replicate 1 48) ≡ n * 10
-unfolding decimal_after
-zeros_1 n = omega arith
+-- at most three
+pub fraction_below : (n : ℕ) (F : Bytes) → n < 1000000000 → AllPass is_digit F → length F ≤ 3 → decimal_after n F < 1000000000000
+fraction_below n F p d h = omega (arith, decimal_limit n 3 F d h)

@@ -1,105 +1,77 @@
 // The text of a pause in exact microseconds, request E12.
 #![tactic(auto)]
 
-ghost use Rattle.std.specs.Prelude.{◌≡◌, ◌+◌, ◌-◌, ◌<◌, ◌≤◌, length, take, drop, replicate};
-ghost use Rattle.paper.specs.Pause.{digits_first, decimal_after, after_mark, read_pause};
+ghost use Rattle.std.specs.Prelude.{◌≡◌, ◌+◌, ◌-◌, ◌*◌, ◌<◌, ◌≤◌, length, take, replicate};
+ghost use Rattle.std.specs.List.{AllPass};
+ghost use Rattle.paper.specs.Pause.{digits_first, decimal_after, after_mark, read_pause, is_digit};
 ghost use Rattle.pause_unit.specs.Answers.{read_as};
 
-use pause_unit::Read;
-
-// The place after the digits that stand from a place on.
-fn digits_end(text: &[u8], from: usize) -> usize
-    requires { from ≤ length text.now }
-    ensures { (result ≡ from + digits_first (drop from text.now)) × (result ≤ length text.now) }
+// How many digits a text starts with.
+fn digits(text: &[u8]) -> usize
+    ensures value { result ≡ digits_first text.now }
+    ensures within { result ≤ length text.now }
+    ensures digits { AllPass is_digit (take result text.now) }
 {
-    let mut at = from;
-    while at < text.len() {
-        if text[at] < 48 {
-            return at;
-        }
-        if 57 < text[at] {
-            return at;
-        }
-        at += 1;
-    }
-    at
+    text.iter().take_while(|b| b.is_ascii_digit()).count()
 }
 
-// A digit's number.
-fn digit(b: u8) -> u64
-    requires { (48 ≤ b) × (b ≤ 57) }
-    ensures { (result ≡ b - 48) × (result < 10) }
-{
-    (b - 48) as u64
-}
-
-// The number that n and then at most nine digits, from one place to another, represent.
-fn number(n: u64, text: &[u8], from: usize, to: usize) -> u64
-    requires { (n < 1000000000) × (from ≤ to) × (to ≤ from + 9) × (to ≤ from + digits_first (drop from text.now)) × (from ≤ length text.now) }
-    ensures { result ≡ decimal_after n (take (to - from) (drop from text.now)) }
+// The number that n and then at most nine digits represent.
+#[tactic(auto, using(crate::proofs::Texts::decimal_more, crate::proofs::Texts::decimal_small))]
+fn number(n: u64, digits: &[u8]) -> u64
+    requires small { n < 1000000000 }
+    requires nine { length digits.now ≤ 9 }
+    requires digits { AllPass is_digit digits.now }
+    ensures value { result ≡ decimal_after n digits.now }
+    ensures small { result < (n + 1) * 1000000000 }
 {
     let mut value = n;
-    let mut at = from;
-    while at < to {
-        value = value * 10 + digit(text[at]);
-        at += 1;
+    for b in digits {
+        value = value * 10 + u64::from(*b - b'0');
     }
     value
 }
 
 // n, which ends with a fraction of so many digits, with the zeros that fill the fraction to three.
+#[tactic(auto, unfolding(paper::specs::Pause::decimal_after))]
 fn filled(n: u64, digits: usize) -> u64
     requires { (n < 1000000000000) × (digits ≤ 3) }
-    ensures { result ≡ decimal_after n (replicate (3 - digits) 48) }
+    ensures value { result ≡ decimal_after n (replicate (3 - digits) 48) }
+    ensures small { result ≤ n * 1000 }
 {
-    if digits == 0 {
-        return n * 1000;
+    match digits {
+        0 => n * 1000,
+        1 => n * 100,
+        2 => n * 10,
+        _ => n,
     }
-    if digits == 1 {
-        return n * 100;
-    }
-    if digits == 2 {
-        return n * 10;
-    }
-    n
 }
 
 // What follows the mark, which stands after the whole number's digits: 1 to 3 digits and the unit.
-fn after_mark(text: &[u8], whole: usize) -> Read
-    requires { (whole < length text.now) × (whole ≤ 9) × (whole ≤ digits_first text.now) }
-    ensures { result ≡ read_as (after_mark (take whole text.now) (drop (whole + 1) text.now)) }
+#[tactic(auto, using(crate::proofs::Texts::fraction_below))]
+fn after_mark(whole: &[u8], rest: &[u8]) -> Option<u64>
+    requires nine { length whole.now ≤ 9 }
+    requires digits { AllPass is_digit whole.now }
+    ensures { result ≡ read_as (after_mark whole.now rest.now) }
 {
-    let from = whole + 1;
-    let end = digits_end(text, from);
-    let digits = end - from;
-    if digits < 1 {
-        return Read::Bad;
+    let count = digits(rest);
+    if !(1..=3).contains(&count) {
+        return None;
     }
-    if 3 < digits {
-        return Read::Bad;
-    }
-    let n = number(0, text, 0, whole);
-    let m = number(n, text, from, end);
-    pause_unit::with_unit(filled(m, digits), text, end)
+    let n = number(number(0, whole), &rest[..count]);
+    pause_unit::with_unit(filled(n, count), rest, count)
 }
 
 // The microseconds of a text under a decimal mark.
-pub fn read_text(mark: u8, text: &[u8]) -> Read
+pub fn read_text(mark: u8, text: &[u8]) -> Option<u64>
     ensures { result ≡ read_as (read_pause mark text.now) }
 {
-    let whole = digits_end(text, 0);
-    if whole < 1 {
-        return Read::Bad;
+    let count = digits(text);
+    if !(1..=9).contains(&count) {
+        return None;
     }
-    if 9 < whole {
-        return Read::Bad;
+    let whole = &text[..count];
+    if *text.get(count)? == mark {
+        return after_mark(whole, &text[count + 1..]);
     }
-    if whole == text.len() {
-        return Read::Bad;
-    }
-    if text[whole] == mark {
-        return after_mark(text, whole);
-    }
-    let n = number(0, text, 0, whole);
-    pause_unit::with_unit(filled(n, 0), text, whole)
+    pause_unit::with_unit(filled(number(0, whole), 0), text, count)
 }
