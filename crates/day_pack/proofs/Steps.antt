@@ -1,11 +1,15 @@
 -- A clearing after each of its steps: what was written, and by which contract it is known.
 use mathlib.Core.List.{List, ◌++◌}
-use mathlib.Core.Path.{◌≡◌}
+use mathlib.Core.Path.{◌≡◌, ap, subst, ◌∙◌}
 use Prim.Native.Nat.{ℕ, ◌+◌, ◌-◌, ◌*◌}
-use lib.ListN.{length, take}
+use native.Mathlib.Omega.{arith}
+use mir.Syntax.{w8}
+use mir.Val.{Fits}
+use lib.ListN.{length, get_or, take}
 use Rattle.paper.specs.Strings.{Bytes, Below, digits}
 use Rattle.paper.specs.DayFile.{write_places}
 use Rattle.paper.specs.DayEdits.{count_below, keeps}
+use Rattle.laws.proofs.Digits.{below_of}
 use Rattle.laws.specs.Placing.{placed}
 use Rattle.day_place.specs.Walked.{places_of}
 use Rattle.day_pack.specs.Bits.{bits_below}
@@ -22,6 +26,20 @@ pub record Begun : Type 0 where
   pub first : ℕ
   pub dropped : List ℕ
   pub clearable : Clearable buffer size headers records first dropped
+
+-- a call's buffer, whose entries are bytes
+abbrev pub begun : {buffer : Bytes} {size headers records first : ℕ} {dropped : List ℕ} → Clearable buffer size headers records first dropped → ((i : ℕ) → Fits w8 (get_or buffer i 0)) → Begun
+begun {buffer} {size} {headers} {records} {first} {dropped} clearable bytes =
+    record {
+      buffer = buffer;
+      low = below_of 256 buffer (λ i p. omega (arith, bytes i));
+      size = size;
+      headers = headers;
+      records = records;
+      first = first;
+      dropped = dropped;
+      clearable = clearable;
+    }
 
 -- where its records end
 abbrev pub last_of : Begun → ℕ
@@ -59,6 +77,18 @@ pub record RecordsPut (b : Begun) (m : Marked b) (h : CountPut b m) (q : Headers
   pub end_is : end ≡ q.to + 4 + length (records_kept (take (last_of b) n.out) m.table b.dropped b.first b.records)
   pub out : Bytes
   pub put : Packed n.out (take (q.to + 4) n.out ++ records_kept (take (last_of b) n.out) m.table b.dropped b.first b.records) (last_of b) out
+
+-- these, where the counts hold a table that is the same
+abbrev pub records_put : (b : Begun) (m : Marked b) (h : CountPut b m) (q : HeadersPut b m h) (n : NumberPut b m h q) (t : List ℕ) → t ≡ m.table → (end : ℕ) (out : Bytes)
+    → end ≡ q.to + 4 + length (records_kept (take (last_of b) n.out) t b.dropped b.first b.records)
+    → Packed n.out (take (q.to + 4) n.out ++ records_kept (take (last_of b) n.out) t b.dropped b.first b.records) (last_of b) out → RecordsPut b m h q n
+records_put b m h q n t same end out is put =
+    record {
+      end = end;
+      end_is = is ∙ ap (λ (u : List ℕ). q.to + 4 + length (records_kept (take (last_of b) n.out) u b.dropped b.first b.records)) same;
+      out = out;
+      put = subst (λ (u : List ℕ). Packed n.out (take (q.to + 4) n.out ++ records_kept (take (last_of b) n.out) u b.dropped b.first b.records) (last_of b) out) same put;
+    }
 
 -- the index follows them
 pub record IndexPut (b : Begun) (m : Marked b) (h : CountPut b m) (q : HeadersPut b m h) (n : NumberPut b m h q) (r : RecordsPut b m h q n) : Type 0 where
