@@ -4,10 +4,13 @@
 -- `sixteen`, `strings`, `halves` and `turns`, that meaning is what is determined. `Learnt` is a function's contract as its callers have it:
 -- the checker makes it from the `ensures` in the source. In each theorem κs are lifetimes, a the arguments, z and w two results, e and f the
 -- parameters at two exits.
-use mathlib.Core.List.{List, [], map}
+use mathlib.Core.HLevel.{is_prop→PathP}
+use mathlib.Core.List.{List, [], map, is_set as List-set}
 use mathlib.Core.Option.{Option, none, some}
 use mathlib.Core.Path.{◌≡◌, refl, ap, sym, ◌∙◌}
-use Prim.Native.Nat.{ℕ}
+use Prim.Native.Nat.{ℕ, ◌≤◌}
+use native.Mathlib.Bridge.{le_prop}
+use native.Mathlib.Nat.{ℕ_set}
 use native.Mathlib.Omega.{arith}
 use lib.ListN.{length, drop, length-drop}
 use Rattle.std.specs.Prelude.{Option as Answered, Some, None}
@@ -30,7 +33,8 @@ use Rattle.multiples.specs.Eight.{multiples}
 use Rattle.circuit.specs.Planes.{lane}
 use Rattle.sub_bytes.specs.Planes.{crossed_bytes}
 use Rattle.planes.specs.Planes.{plane_block, up_to}
-use Rattle.strings.specs.Waiting.{so_far}
+use Rattle.strings.specs.Sums.{so_far}
+use Rattle.strings.specs.declared.Sum.{Sum}
 use Rattle.block.proofs.xor.Reads as block-xor
 use Rattle.block.proofs.pad.Reads as block-pad
 use Rattle.block.proofs.number.Reads as block-number
@@ -101,9 +105,9 @@ use Rattle.settle.proofs.settled_sealing.Reads as settle-settled-sealing
 use Rattle.settle.proofs.settled_opening.Reads as settle-settled-opening
 use Rattle.builder.proofs.put.Reads as builder-put
 use Rattle.builder.proofs.log_header.Reads as builder-log-header
-use Rattle.strings.proofs.nothing.Reads as strings-nothing
-use Rattle.strings.proofs.add_string.Reads as strings-add-string
-use Rattle.strings.proofs.hashed.Reads as strings-hashed
+use Rattle.strings.proofs.Sum.nothing.Reads as strings-nothing
+use Rattle.strings.proofs.Sum.add_string.Reads as strings-add-string
+use Rattle.strings.proofs.Sum.hashed.Reads as strings-hashed
 use Rattle.hash.proofs.delta.Reads as hash-delta
 use Rattle.hash.proofs.prf.Reads as hash-prf
 use Rattle.halves.specs.Blocks.{blocks_of}
@@ -209,6 +213,10 @@ one_walk file n (Some a) (Some b) p q =
     let same : a ≡ b = omega (arith, p.0, q.0, ap length rest, length-drop a file, length-drop b file) in
     ap Some same
 
+-- numbers in a list are equal in one way
+numbers_set : IsSet (List ℕ)
+numbers_set = List-set ℕ_set
+
 -- a key record by its blocks, of which the others are multiples
 one_key : (z w : Key) (k : figure6.Key) → blocks z ≡ k → Kept z → blocks w ≡ k → Kept w → z ≡ w
 one_key z w k p y q x =
@@ -218,7 +226,26 @@ one_key z w k p y q x =
     let Ls = y.Ls ∙ ap (λ (b : figure6.Key). multiples b.L) same ∙ sym x.Ls in
     let Js = y.Js ∙ ap (λ (b : figure6.Key). multiples b.J) same ∙ sym x.Js in
     let Rows = y.Rows ∙ ap (λ (b : figure6.Key). multiples (8 · b.J)) same ∙ sym x.Rows in
-    λ i. record { i = (same i).I; j = (same i).J; l = (same i).L; i2 = I2 i; j2 = J2 i; ls = Ls i; js = Js i; rows = Rows i }
+    λ i.
+    record {
+      i = (same i).I;
+      j = (same i).J;
+      l = (same i).L;
+      i2 = I2 i;
+      j2 = J2 i;
+      ls = Ls i;
+      js = Js i;
+      rows = Rows i;
+      twice_i = is_prop→PathP (λ n. I2 n ≡ columns_of (2 · (same n).I)) (λ n. numbers_set _ _) z.twice_i w.twice_i i;
+      twice_j = is_prop→PathP (λ n. J2 n ≡ columns_of (2 · (same n).J)) (λ n. numbers_set _ _) z.twice_j w.twice_j i;
+      of_l = is_prop→PathP (λ n. Ls n ≡ multiples (same n).L) (λ n. numbers_set _ _) z.of_l w.of_l i;
+      of_j = is_prop→PathP (λ n. Js n ≡ multiples (same n).J) (λ n. numbers_set _ _) z.of_j w.of_j i;
+      of_8j = is_prop→PathP (λ n. Rows n ≡ multiples (8 · (same n).J)) (λ n. numbers_set _ _) z.of_8j w.of_8j i;
+    }
+
+-- a sum by what is summed, its group and how many of its blocks wait
+one_sum : (z w : Sum) → z.total ≡ w.total → z.group ≡ w.group → z.waiting ≡ w.waiting → z ≡ w
+one_sum z w t g n = λ i. record { total = t i; group = g i; waiting = n i; few = is_prop→PathP (λ m. n m ≤ 16) (λ m. le_prop) z.few w.few i }
 
 -- ---- Blocks: `block`
 
@@ -460,12 +487,12 @@ builder_log_header_determined κs a z w e f p q = one_outcome z w e.1.1.1.1.0.no
 -- ---- The strings of a tweak: `strings`
 
 pub strings_nothing_determined : (κs : _) (a : _) (z w : _) (e f : _) → strings-nothing.Learnt κs a z e → strings-nothing.Learnt κs a w f → z ≡ w
-strings_nothing_determined κs a z w e f p q = one p q
+strings_nothing_determined κs a z w e f p q = one_sum z w (one p.0 q.0) (one p.1 q.1) (one p.2 q.2)
 
 -- what is hashed so far; which of its blocks wait is left open
 pub strings_add_string_determined : (κs : _) (a : _) (z w : _) (e f : _) → strings-add-string.Learnt κs a z e → strings-add-string.Learnt κs a w f
-    → so_far (blocks a.0) e.1.1.1.1.1.0.now z ≡ so_far (blocks a.0) f.1.1.1.1.1.0.now w
-strings_add_string_determined κs a z w e f p q = one p.1 q.1
+    → so_far (blocks a.1.0) e.0.now ≡ so_far (blocks a.1.0) f.0.now
+strings_add_string_determined κs a z w e f p q = one p q
 
 pub strings_hashed_determined : (κs : _) (a : _) (z w : _) (e f : _) → strings-hashed.Learnt κs a z e → strings-hashed.Learnt κs a w f → z ≡ w
 strings_hashed_determined κs a z w e f p q = one p q

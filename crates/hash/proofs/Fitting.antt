@@ -1,14 +1,17 @@
 -- Blocks put one after the other into a buffer until it is full.
 use mathlib.Core.List.{◌++◌, append-nil}
-use mathlib.Core.Path.{◌≡◌, refl, ap, ap₂, sym, ◌∙◌}
+use mathlib.Core.Path.{◌≡◌, refl, ap, ap₂, sym, subst, ◌∙◌}
 use Prim.Native.Nat.{ℕ, ◌+◌, ◌-◌, ◌*◌, ◌/◌, ◌≤◌, ◌<◌, min}
 use native.Mathlib.Decide.{dec_le}
 use native.Mathlib.Omega.{arith}
 use lib.ListN.{length, take, drop, length-append, length-drop, drop_of_length-le}
 use lib.Seq.{length-take-le, take_all, take-nil, take_at, take-append-add}
-use Rattle.paper.specs.Strings.{Bytes, join}
+use Rattle.paper.specs.Strings.{Bytes, ◌⊕◌, number, join}
+use Rattle.paper.specs.Figure6.{minus1, E}
 use Rattle.laws.proofs.Fronts.{lent_end}
 use Rattle.laws.proofs.Joins.{join_more}
+use Rattle.tbc.specs.declared.Base.{Base}
+use Rattle.tbc.specs.Meaning.{base}
 use Rattle.hash.specs.Fitted.{fitted}
 
 -- what was put at the front, cut to 16 bytes, is what fits
@@ -91,8 +94,18 @@ filled_more {F} {t} {out} {at} {i} f y ys h e is p =
       front = ap (take (at + 16)) put ∙ block_more out (join i F) y at f.whole e h f.front ∙ ap₂ take (sym same) (sym more);
     }
 
+-- the same, where the place behind the block has another name
+pub filled_next : {F : ℕ → Bytes} {t : ℕ} {out : Bytes} {at i : ℕ} → Filled F t out at i → (y ys : Bytes) (next : ℕ) → at + 16 ≡ next → at < length out → length y ≡ 16 → y ≡ F (i + 1)
+    → ys ≡ fitted (take (length out - at) (drop at out)) y → Filled F t (take at out ++ (ys ++ drop (length out - at) (drop at out))) next (i + 1)
+filled_next {F} {t} {out} {at} {i} f y ys next n h e is p =
+    subst (λ (k : ℕ). Filled F t (take at out ++ (ys ++ drop (length out - at) (drop at out))) k (i + 1)) n (filled_more f y ys h e is p)
+
 -- a full buffer
 pub filled_all : {F : ℕ → Bytes} {t : ℕ} {out : Bytes} {at i : ℕ} → Filled F t out at i → t ≤ at → out ≡ take t (join ((t + 15) / 16) F)
 filled_all {F} {t} {out} {at} {i} f h =
     let count : i ≡ (t + 15) / 16 = omega (arith, f.place, f.near) in
     sym (take_all at out (omega (arith, f.long))) ∙ f.front ∙ (λ k. take (f.long k) (join (count k) F))
+
+-- line 312: block i, counted from 1
+abbrev pub block_of_line : Base → Bytes → ℕ → Bytes
+block_of_line b delta i = E (base b) minus1 3 (delta ⊕ number (i - 1))

@@ -20,7 +20,8 @@ use Rattle.columns.proofs.Conversions.{columns_block, block_of_block}
 use Rattle.groups.specs.Groups.{entry, AES4s}
 use Rattle.groups.proofs.Held.{at_AES4s}
 use Rattle.strings.specs.declared.Sum.{Sum}
-use Rattle.strings.specs.Waiting.{added_up, nothing, so_far}
+use Rattle.strings.specs.Waiting.{added_up}
+use Rattle.strings.specs.Sums.{so_far}
 
 module _ (keys : List Bytes) (g : List (List ℕ)) where
   pub added_none : added_up keys g 0 ≡ zeros
@@ -75,15 +76,16 @@ so_short keys g n total =
     omega (arith, ap length (⊕_comm total (added_up keys g n)), ⊕_short (added_up keys g n) total, sum_short n (λ i. AES4 keys (block_of (entry g (i - 1)))))
 
 -- the stretch, which is one block, is hashed before anything waits
-pub first_string : (K : Key) (g : List (List ℕ)) (f : BlockFunction) (τ : ℕ) {none : Sum} {bits S : Bytes} → none ≡ nothing
-    → S ≡ so_far K g none ⊕ hash_string f 1 bits → bits ≡ number τ → S ≡ hash_string f 1 (number τ)
-first_string K g f τ n e b =
+pub first_string : (K : Key) (f : BlockFunction) (τ : ℕ) (none : Sum) {bits S : Bytes} → none.total ≡ zeros → none.waiting ≡ 0
+    → S ≡ so_far K none ⊕ hash_string f 1 bits → bits ≡ number τ → S ≡ hash_string f 1 (number τ)
+first_string K f τ none t w e b =
     let H : Bytes = hash_string f 1 (number τ) in
     let long : length (number τ) ≡ 16 = (number_block τ).len in
     let is = hash_full f 1 (number τ) (λ e. omega arith) (omega arith) in
-    let none = ap (so_far K g) n ∙ ap (λ (X : Bytes). zeros ⊕ X) (added_none _ g) ∙ ⊕_zeros 16 zeros (omega arith) in
+    let zero : so_far K none ≡ zeros =
+    (λ i. t i ⊕ added_up (k0 K) none.group (w i)) ∙ ap (λ (X : Bytes). zeros ⊕ X) (added_none (k0 K) none.group) ∙ ⊕_zeros 16 zeros (omega arith) in
     e
-    ∙ (λ i. none i ⊕ hash_string f 1 (b i))
+    ∙ (λ i. zero i ⊕ hash_string f 1 (b i))
     ∙ ⊕_comm zeros H
     ∙ ⊕_zeros 16 H (omega (arith, ap length is, sum_short (length (number τ) / 16) (λ j. f (row 3) j (block_at (number τ) j))))
 

@@ -7,3 +7,4 @@ mod OnBlocks
 mod FirstByte
 mod Indices
 mod AllTurns
+mod Under

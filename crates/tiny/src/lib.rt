@@ -10,7 +10,7 @@ ghost use Rattle.paper.specs.Figure5.{tiny_index, encipher_tiny, decipher_tiny};
 ghost use Rattle.columns.specs.Columns.{columns_of};
 ghost use Rattle.pairs.specs.Meaning.{pair};
 ghost use Rattle.tbc.specs.Meaning.{base, OfJ, masked0};
-ghost use Rattle.key.specs.Meaning.{blocks, Kept};
+ghost use Rattle.key.specs.Meaning.{blocks};
 ghost use Rattle.tiny.specs.OnBytes.{mark, last_bytes};
 
 use columns::Columns;
@@ -20,9 +20,10 @@ fn pair_for(n: usize) -> pairs::Pair
     ensures { result ≡ pair false 0 (tiny_index (8 * n)) }
 {
     if 16 <= n {
-        return pairs::Pair::TINY;
+        pairs::Pair::TINY
+    } else {
+        pairs::Pair::TINY_SHORT
     }
-    pairs::Pair::TINY_SHORT
 }
 
 // Line 216: the 1 bit of R10*, for n half-bytes R.
@@ -41,9 +42,7 @@ fn keys_for(k: tbc::Base, m: &[u32; 32], delta: [u8; 16], n: usize) -> [Columns;
     ensures { result ≡ masked0 k (columns_of ((delta ⊕ mark n) ⊕ tiny_index (8 * n) · (base k).J)) }
 {
     let p = pair_for(n);
-    let d = columns::of_block(delta);
-    let bit = mark(n);
-    let fixed = columns::xor(d, bit);
+    let fixed = columns::xor(columns::of_block(delta), mark(n));
     tbc::keys_adding(k, m, p, fixed)
 }
 
@@ -52,20 +51,19 @@ fn last_step(k: tbc::Base, m: &[u32; 32], delta: [u8; 16], s: &mut [u8])
     requires { (1 ≤ length s.old) × OfJ k m.now }
     ensures { s.new ≡ last_bytes (E (base k)) delta s.old }
 {
-    if 16 <= s.len() {
-        return;
+    let short = s.len() < 16;
+    if short {
+        let mut x = [0; 16];
+        slices::copy(&mut x, 0, s);
+        x[0] |= 128;
+        let e = tbc::e(k, m, pairs::Pair::TINY_LAST, block::xor(delta, x));
+        s[0] ^= e[0] & 128;
     }
-    let mut x = [0u8; 16];
-    slices::copy(&mut x, 0, s);
-    x[0] = x[0] | 128;
-    let y = block::xor(delta, x);
-    let e = tbc::e(k, m, pairs::Pair::TINY_LAST, y);
-    s[0] = s[0] ^ (e[0] & 128);
 }
 
 // Lines 210 to 218.
 pub fn encipher(k: key::Key, delta: [u8; 16], s: &mut [u8])
-    requires { (Kept k) × (1 ≤ length s.old) × (length s.old ≤ 31) }
+    requires { (1 ≤ length s.old) × (length s.old ≤ 31) }
     ensures { s.new ≡ encipher_tiny (E (blocks k)) delta s.old }
 {
     let b = k.base();
@@ -73,15 +71,14 @@ pub fn encipher(k: key::Key, delta: [u8; 16], s: &mut [u8])
     let n = s.len();
     let keys = keys_for(b, &m, delta, n);
     let bits = halves::front(n);
-    let both = halves::halves_of(s, bits);
-    let t = turns::turns_up(&keys, bits, n, both);
+    let t = turns::turns_up(&keys, bits, n, halves::halves_of(s, bits));
     halves::put_joined(t, s);
     last_step(b, &m, delta, s);
 }
 
 // Lines 210 to 218 when deciphering: the `if` of line 217 comes first, and the turns count down.
 pub fn decipher(k: key::Key, delta: [u8; 16], s: &mut [u8])
-    requires { (Kept k) × (1 ≤ length s.old) × (length s.old ≤ 31) }
+    requires { (1 ≤ length s.old) × (length s.old ≤ 31) }
     ensures { s.new ≡ decipher_tiny (E (blocks k)) delta s.old }
 {
     let b = k.base();
@@ -90,7 +87,6 @@ pub fn decipher(k: key::Key, delta: [u8; 16], s: &mut [u8])
     last_step(b, &m, delta, s);
     let keys = keys_for(b, &m, delta, n);
     let bits = halves::front(n);
-    let both = halves::halves_of(s, bits);
-    let t = turns::turns_down(&keys, bits, n, both);
+    let t = turns::turns_down(&keys, bits, n, halves::halves_of(s, bits));
     halves::put_joined(t, s);
 }

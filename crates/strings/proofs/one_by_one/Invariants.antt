@@ -1,8 +1,8 @@
--- The blocks below i are added up.
 use Rattle.std.proofs.Common.{◌≡◌}
 use Rattle.aes.specs.Steps.{keys_of}
 use Rattle.strings.specs.Waiting.{added_up}
 use Rattle.strings.proofs.one_by_one.Given as goal
 
-abbrev pub invariant-loop-i : goal.invariant-loop-i
-invariant-loop-i l = l.total ≡ added_up (keys_of l.keys) l.g l.i
+-- the first blocks are added up
+abbrev pub invariant-loop-x : goal.invariant-loop-x
+invariant-loop-x l = l.total ≡ added_up (keys_of l.keys) l.g l.x-index
