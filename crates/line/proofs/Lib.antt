@@ -1,1 +1,2 @@
+mod Digits
 mod Putting

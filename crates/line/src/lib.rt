@@ -10,16 +10,14 @@ ghost use Rattle.line.specs.Fields.{decimal_then};
 use mean::Report;
 
 // How many decimal digits a number has.
+#[tactic(auto, using(crate::proofs::Digits::log_digits, crate::proofs::Digits::no_log))]
 fn decimal_length(n: u64) -> usize
     ensures { (result ≡ length (decimal n)) × (result ≤ 20) }
 {
-    let mut left = n;
-    let mut count: usize = 1;
-    while 10 <= left {
-        left = left / 10;
-        count += 1;
+    match n.checked_ilog10() {
+        Some(log) => log as usize + 1,
+        None => 1,
     }
-    count
 }
 
 // A number put at a place of out in decimal, from its last digit to its first.
@@ -27,11 +25,12 @@ fn put_decimal(out: &mut [u8], at: usize, n: u64)
     requires { at + length (decimal n) ≤ length out.old }
     ensures { out.new ≡ placed at (decimal n) out.old }
 {
+    // A while: the first digit is written after it, so that 0 has one digit, and a for over the places backwards would divide once more for nothing.
     let mut place = at + decimal_length(n) - 1;
     let mut left = n;
     while 10 <= left {
         out[place] = (48 + left % 10) as u8;
-        left = left / 10;
+        left /= 10;
         place -= 1;
     }
     out[place] = (48 + left) as u8;
@@ -48,17 +47,16 @@ fn put_field(out: &mut [u8], at: usize, n: u64, after: u8) -> usize
     end + 1
 }
 
-// The length of a report's line.
+// The length of a report's line: its figures, and a byte after each.
+#[tactic(auto, using(crate::proofs::Putting::line_long), unfolding(paper::specs::Ledger::figures_of))]
 pub fn line_length(r: Report) -> usize
     ensures { result ≡ length (line_of (meaning r)) }
 {
-    let read = decimal_length(r.totals.read);
-    let refused = decimal_length(r.totals.refused);
-    let sum = decimal_length(r.totals.sum);
-    let longest = decimal_length(r.totals.longest);
-    let over = decimal_length(r.over);
-    let under = decimal_length(r.under);
-    read + refused + sum + longest + over + under + 6
+    let mut length = 6;
+    for n in r.figures() {
+        length += decimal_length(n);
+    }
+    length
 }
 
 // The line put first in out.

@@ -39,6 +39,7 @@ impl Report {
 fn divisor(a: u64, b: u64) -> u64
     ensures { result ≡ gcd a b }
 {
+    // A while: how many steps there are is known only from the numbers, so that no range stands for them.
     let (mut x, mut y) = (a, b);
     while y != 0 {
         (x, y) = (y, x % y);
