@@ -77,11 +77,16 @@ module _ (f : Bytes) (low : Below 256 f) (day : Day) (reads : read_day f ≡ som
         ∙ write_append (take n day.headers) (h ∷ []) in
         omega (arith, ap length more, length-append (write_strings (take n day.headers)) (write_strings (h ∷ [])), strings_long h [])
 
+-- the bytes of a slice are below 256
+pub read_below : (f : Bytes) → ((i : ℕ) → Fits w8 (get_or f i 0)) → Below 256 f
+read_below f low = below_of 256 f (λ i p. omega (arith, low i))
+
 -- a step over a header: it lies within the file, and the next one's length bytes follow
-pub passed : (f : Bytes) → Below 256 f → (n at : ℕ) → n < headers_in (read_day f) → at ≡ length_place (read_day f) n
+pub passed : (f : Bytes) → ((i : ℕ) → Fits w8 (get_or f i 0)) → (n at : ℕ) → n < headers_in (read_day f) → at ≡ length_place (read_day f) n
     → (at + 2 + value (take 2 (drop at f)) ≤ length f) × (at + 2 + value (take 2 (drop at f)) ≡ length_place (read_day f) (n + 1))
 unfolding length_place
-passed f low n at p e =
+passed f fits n at p e =
+    let low = read_below f fits in
     let found = with_header (read_day f) n p in
     let day = found.0 in
     let reads = found.1 in
@@ -173,10 +178,7 @@ stands f low records k e p =
       named = (fits f low day reads k r own.1).1;
     }
 
--- the bytes of a slice are below 256, and so the record that is asked for stands
-pub read_below : (f : Bytes) → ((i : ℕ) → Fits w8 (get_or f i 0)) → Below 256 f
-read_below f low = below_of 256 f (λ i p. omega (arith, low i))
-
+-- the record that is asked for stands
 pub there : (f : Bytes) → ((i : ℕ) → Fits w8 (get_or f i 0)) → (records k : ℕ) → (records ≡ records_in (read_day f)) × (k < records) → Stands f records k
 there f low records k p = stands f (read_below f low) records k p.0 p.1
 

@@ -7,6 +7,7 @@ use native.Mathlib.Numerals.{add-one}
 use native.Mathlib.Omega.{arith}
 use borrow.Author.Tests.{lt-ltb, le-ltb}
 use borrow.Rule.Slice.PartMut.{put_mid, Post-is}
+use Rattle.std.proofs.Common.{Fits, w8}
 use lib.ListN.{length, get_or, take, drop, length-append, take-append-drop}
 use lib.Seq.{length-take-le, take-suc, take_all, drop-cons}
 use Rattle.paper.specs.Strings.{Bytes, Below}
@@ -25,7 +26,7 @@ use Rattle.day.specs.Checks.{checked_as, checked_day}
 use Rattle.day.proofs.Found.{counts_are}
 use Rattle.day_find.specs.Finds.{headers_in, records_in, length_place}
 use Rattle.day_list.specs.Lists.{headers_listed, record_place, records_listed}
-use Rattle.day_find.proofs.Finding.{Stands, stands}
+use Rattle.day_find.proofs.Finding.{Stands, there}
 
 -- nothing put changes nothing
 pub none_put : (base : ℕ) (out : List ℕ) → out ≡ placed base [] out
@@ -135,9 +136,9 @@ pub record Passed (f : Bytes) (i at : ℕ) : Type 0 where
   pub more : records_listed (read_day f) (i + 1)
       ≡ records_listed (read_day f) i ++ (entry_at f at).header ∷ (entry_at f at).stretch ∷ (entry_at f at).start ∷ (entry_at f at).end ∷ []
 
-module _ (f : Bytes) (low : Below 256 f) (records i at : ℕ) (many : records ≡ records_in (read_day f)) (inside : i < records) (here : at ≡ record_place (read_day f) i) where
+module _ (f : Bytes) (fits : (k : ℕ) → Fits w8 (get_or f k 0)) (records i at : ℕ) (many : records ≡ records_in (read_day f)) (inside : i < records) (here : at ≡ record_place (read_day f) i) where
   s : Stands f records i
-  s = stands f low records i many inside
+  s = there f fits records i (many, inside)
 
   abbrev rs : List Record
   rs = s.day.records

@@ -16,10 +16,6 @@ abbrev pub ahead : List Bytes → Option (List Bytes × Bytes) → Option (List 
 ahead ps none = none
 ahead ps (some (hs, rest)) = some (ps ++ hs, rest)
 
-pub ahead_none : (o : Option (List Bytes × Bytes)) → o ≡ ahead [] o
-ahead_none none = refl
-ahead_none (some (hs, rest)) = refl
-
 ahead_one : (ps : List Bytes) (h : Bytes) (o : Option (List Bytes × Bytes)) → ahead ps (before h o) ≡ ahead (ps ++ h ∷ []) o
 ahead_one ps h none = refl
 ahead_one ps h (some (hs, rest)) = ap (λ (l : List Bytes). some (l, rest)) (sym (append_assoc ps (h ∷ []) hs))

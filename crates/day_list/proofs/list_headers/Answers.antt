@@ -1,9 +1,7 @@
 -- `day_list::list_headers` meets its contract.
-use Rattle.std.proofs.Common.{◌≡◌, ◌∙◌, ◌+◌, ◌-◌, ◌*◌, ◌≤◌, ◌<◌, ◌++◌, ◌∷◌, [], ℕ, List, length, take, drop, get_or, refl, ap, sym, Fits, w8, arith}
+use Rattle.std.proofs.Common.{◌≡◌, ◌∙◌, ◌+◌, ◌-◌, ◌*◌, ◌<◌, ◌++◌, ◌∷◌, [], ℕ, List, refl, ap, sym, arith}
 use borrow.Rule.Slice.PartMut.{put_mid}
-use Rattle.paper.specs.Strings.{Bytes}
-use Rattle.paper.specs.DayFile.{value, read_day}
-use Rattle.laws.proofs.Digits.{below_of}
+use Rattle.paper.specs.DayFile.{read_day}
 use Rattle.laws.specs.Placing.{placed}
 use Rattle.day_find.specs.Finds.{headers_in, length_place}
 use Rattle.day_list.specs.Lists.{headers_listed}
@@ -16,20 +14,15 @@ loop-i-init c =
     let o = read_day c.args.file.now in
     record { next = first_header o; put = ap (λ (w : List ℕ). placed 0 w c.args.places.now) (sym (headers_none o)) }
 
--- the header that is next lies within the file, and the one after it follows
-step : (f : Bytes) → ((i : ℕ) → Fits w8 (get_or f i 0)) → (n at : ℕ) → n < headers_in (read_day f) → at ≡ length_place (read_day f) n
-    → (at + 2 + value (take 2 (drop at f)) ≤ length f) × (at + 2 + value (take 2 (drop at f)) ≡ length_place (read_day f) (n + 1))
-step f low n at p e = passed f (below_of 256 f (λ i q. omega (arith, low i))) n at p e
-
 pub overflow_add-start : goal.overflow_add-start
-overflow_add-start c = omega (arith, (step c.args.file.now c.type_inv.file c.loop-i.i c.loop-i.at (omega arith) c.loop-i.invariant.next).0)
+overflow_add-start c = omega (arith, (passed c.args.file.now c.type_inv.file c.loop-i.i c.loop-i.at (omega arith) c.loop-i.invariant.next).0)
 
 pub read-requires-clause-inside : goal.read-requires-clause-inside
-read-requires-clause-inside c = omega (arith, (step c.args.file.now c.type_inv.file c.loop-i.i c.loop-i.at (omega arith) c.loop-i.invariant.next).0)
+read-requires-clause-inside c = omega (arith, (passed c.args.file.now c.type_inv.file c.loop-i.i c.loop-i.at (omega arith) c.loop-i.invariant.next).0)
 
 pub overflow_add-end : goal.overflow_add-end
 overflow_add-end c =
-    omega (arith, (step c.args.file.now c.type_inv.file c.loop-i.i c.loop-i.at (omega arith) c.loop-i.invariant.next).0, c.read.ensures.value)
+    omega (arith, (passed c.args.file.now c.type_inv.file c.loop-i.i c.loop-i.at (omega arith) c.loop-i.invariant.next).0, c.read.ensures.value)
 
 pub loop-i-preserved : goal.loop-i-preserved
 loop-i-preserved c =
@@ -38,7 +31,7 @@ loop-i-preserved c =
     let o = read_day f in
     let inside : l.i < headers_in o = omega arith in
     let next : l.at + 2 + c.read.result ≡ length_place o (l.i + 1) =
-    omega (arith, c.read.ensures.value) ∙ (step f c.type_inv.file l.i l.at inside l.invariant.next).1 in
+    omega (arith, c.read.ensures.value) ∙ (passed f c.type_inv.file l.i l.at inside l.invariant.next).1 in
     let own : List ℕ = (l.at + 2) ∷ (l.at + 2 + c.read.result) ∷ [] in
     let more : headers_listed o (l.i + 1) ≡ headers_listed o l.i ++ own =
     headers_more o l.i inside ∙ (λ i. headers_listed o l.i ++ (sym l.invariant.next i + 2) ∷ sym next i ∷ []) in

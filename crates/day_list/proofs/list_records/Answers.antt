@@ -1,13 +1,10 @@
 -- `day_list::list_records` meets its contract.
-use Rattle.std.proofs.Common.{◌≡◌, ◌∙◌, ◌*◌, ◌<◌, ◌++◌, ◌∷◌, [], ℕ, List, get_or, refl, ap, sym, Fits, w8, arith}
-use Rattle.paper.specs.Strings.{Bytes}
+use Rattle.std.proofs.Common.{◌∙◌, ◌*◌, ◌++◌, ◌∷◌, [], ℕ, List, refl, ap, sym, arith}
 use Rattle.paper.specs.DayFile.{read_day}
-use Rattle.laws.proofs.Digits.{below_of}
 use Rattle.laws.specs.Placing.{placed}
 use Rattle.day_steps.specs.declared.Entry.{Entry}
-use Rattle.day_find.specs.Finds.{records_in}
-use Rattle.day_list.specs.Lists.{record_place, records_listed}
-use Rattle.day_list.proofs.Listing.{none_put, then_copied, Passed, passes, records_long_list, records_none}
+use Rattle.day_list.specs.Lists.{records_listed}
+use Rattle.day_list.proofs.Listing.{none_put, then_copied, passes, records_long_list, records_none}
 use Rattle.day_list.proofs.list_records.Goals as goal
 
 pub loop-i-init : goal.loop-i-init
@@ -16,13 +13,9 @@ loop-i-init c =
     let o = read_day a.file.now in
     record { next = c.requires.1; put = none_put a.base a.places.now ∙ ap (λ (w : List ℕ). placed a.base w a.places.now) (sym (records_none o)) }
 
--- the record that is next
-step : (f : Bytes) → ((i : ℕ) → Fits w8 (get_or f i 0)) → (records i at : ℕ) → records ≡ records_in (read_day f) → i < records → at ≡ record_place (read_day f) i → Passed f i at
-step f low records i at many p e = passes f (below_of 256 f (λ i q. omega (arith, low i))) records i at many p e
-
 pub entry_at-e-requires : goal.entry_at-e-requires
 entry_at-e-requires c =
-    let s = step c.args.file.now c.type_inv.file c.args.records c.loop-i.i c.loop-i.at c.requires.0 (omega arith) c.loop-i.invariant.next in
+    let s = passes c.args.file.now c.type_inv.file c.args.records c.loop-i.i c.loop-i.at c.requires.0 (omega arith) c.loop-i.invariant.next in
     (s.room, s.file_short)
 
 pub loop-i-preserved : goal.loop-i-preserved
@@ -32,7 +25,7 @@ loop-i-preserved c =
     let o = read_day f in
     let e = c.entry_at-e.result in
     let is = c.entry_at-e.ensures.0 in
-    let s = step f c.type_inv.file c.args.records l.i l.at c.requires.0 (omega arith) l.invariant.next in
+    let s = passes f c.type_inv.file c.args.records l.i l.at c.requires.0 (omega arith) l.invariant.next in
     record {
       next = ap (λ (x : Entry). x.end) is ∙ s.next;
       put =
