@@ -1,3 +1,4 @@
+mod Made
 pub mod Rows
 pub mod Conversions
 mod Doubles

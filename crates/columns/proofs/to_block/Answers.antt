@@ -1,7 +1,7 @@
 -- Byte i is byte i mod 4 of column i / 4.
 use Rattle.std.proofs.Common.{rules, ℕ, get_or, ◌/◌, ◌%◌}
 use Rattle.std.specs.Int.{w32, to_be_bytes}
-use Rattle.block.proofs.Made.{made_table}
+use Rattle.columns.proofs.Made.{made_table}
 use Rattle.columns.proofs.to_block.Goals as goal
 
 pub returns : goal.returns
