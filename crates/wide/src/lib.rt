@@ -8,7 +8,7 @@ ghost use Rattle.paper.specs.Strings.{◌⊕◌};
 ghost use Rattle.paper.specs.Figure6.{E};
 ghost use Rattle.paper.specs.Figure5.{core};
 ghost use Rattle.tbc.specs.Meaning.{base, OfJ};
-ghost use Rattle.key.specs.Meaning.{blocks, Kept};
+ghost use Rattle.key.specs.Meaning.{blocks};
 ghost use Rattle.pass.specs.Pairs.{HoldsFor};
 ghost use Rattle.wide.specs.Planes.{keys_for};
 ghost use Rattle.wide.specs.Ways.{first_of, second_of, end_pairs};
@@ -164,7 +164,7 @@ fn keys_for(k: tbc::Base, n: usize) -> groups::Keys
 
 // Lines 220 to 240, in place: s becomes AEZ-core of it.
 pub fn core_in_place(k: key::Key, delta: [u8; 16], way: Way, s: &mut [u8])
-    requires { (Kept k) × (32 ≤ length s.old) × (length s.old ≤ 65536) }
+    requires { (32 ≤ length s.old) × (length s.old ≤ 65536) }
     ensures { s.new ≡ core (E (blocks k)) delta (first_of way) (second_of way) s.old }
 {
     let b = k.base();

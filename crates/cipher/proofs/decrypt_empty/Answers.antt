@@ -12,6 +12,6 @@ returns c =
     let C = a.sealed.now in
     let right = c.same_bytes-right in
     let zeros : c.fill.new.self ≡ replicate (length c.prf.new.out) 0 = search rules in (
-      empty_opens (E (blocks a.k)) a.delta (length C) C c.prf.new.out (length a.out.now) right.result refl c.requires.1 c.prf.ensures right.ensures,
+      empty_opens (E (blocks a.k)) a.delta (length C) C c.prf.new.out (length a.out.now) right.result refl c.requires.0 c.prf.ensures right.ensures,
       zeros ∙ ap (λ (n : ℕ). replicate n 0) c.prf.auto.out,
     )

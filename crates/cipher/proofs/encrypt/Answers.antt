@@ -21,4 +21,4 @@ returns-else-is_empty c =
     let copied : mid ≡ M ++ drop (length M) a.out.now =
     ap (λ (ys : Bytes). ys ++ drop (length M) a.out.now) c.copy_from_slice.ensures.after in
     let zeros : c.fill.new.self ≡ replicate (length (take (length mid - length M) (drop (length M) mid))) 0 = search rules in
-    seals_some (E (blocks a.k)) a.delta M a.out.now mid c.fill.new.self c.cipher_in_place.new.s c.requires.1 (eqb-false (length M) 0 (sym c.is_empty.ensures ∙ c.if-is_empty.false)) copied zeros c.cipher_in_place.ensures
+    seals_some (E (blocks a.k)) a.delta M a.out.now mid c.fill.new.self c.cipher_in_place.new.s c.requires.0 (eqb-false (length M) 0 (sym c.is_empty.ensures ∙ c.if-is_empty.false)) copied zeros c.cipher_in_place.ensures
