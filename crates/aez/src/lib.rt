@@ -7,17 +7,38 @@ ghost use Rattle.paper.specs.Document01.{reading, sealing, opening, told, buildi
 ghost use Rattle.paper.specs.DayFile.{counting, opening_record, listing, writing};
 ghost use Rattle.paper.specs.Pause.{pausing};
 ghost use Rattle.paper.specs.Ledger.{reporting, reporting_figures};
+ghost use Rattle.answer.specs.Outcomes.{number_in, place_in};
 ghost use Rattle.paper.specs.DayEdits.{clearing, appending};
 
-use answer::StretchBytes;
+use answer::{Refusal, StretchBytes};
 use header::BadEntry;
+
+// The number of an answer: the C interface has no Result, and needs 0 or the refusal's number.
+fn number_of(answer: Result<usize, Refusal>) -> u32
+    ensures { result ≡ number_in answer }
+{
+    match answer {
+        Ok(_) => 0,
+        Err(refusal) => refusal.number(),
+    }
+}
+
+// The bad entry beside the number 3, and else 0.
+fn place_of(answer: Result<usize, Refusal>) -> u64
+    ensures { result ≡ place_in answer }
+{
+    match answer {
+        Ok(_) => 0,
+        Err(refusal) => refusal.place() as u64,
+    }
+}
 
 // Sealing.
 pub fn aez_seal(key: &[u8], header: &[u8], stretch: u64, text: &[u8], out: &mut [u8]) -> u32
     ensures { (result ≡ (sealing key.now header.now stretch text.now out.old).number) × (out.new ≡ (sealing key.now header.now stretch text.now out.old).output) }
 {
     let answer = record::seal(key, header, StretchBytes(stretch), text, out);
-    answer.number
+    number_of(answer)
 }
 
 // Opening, the numbered form.
@@ -25,7 +46,7 @@ pub fn aez_open(key: &[u8], header: &[u8], stretch: u64, sealed: &[u8], out: &mu
     ensures { (result ≡ (opening key.now header.now stretch sealed.now out.old).number) × (out.new ≡ (opening key.now header.now stretch sealed.now out.old).output) }
 {
     let answer = record::open(key, header, StretchBytes(stretch), sealed, out);
-    answer.number
+    number_of(answer)
 }
 
 // Sealing that also tells which entry of the header is bad (request E5): place is set at every return, and is 0 beside every answer but 3.
@@ -40,8 +61,8 @@ pub fn aez_seal_at(
     ensures { (result ≡ (sealing key.now header.now stretch text.now out.old).number) × (out.new ≡ (sealing key.now header.now stretch text.now out.old).output) × (place.new ≡ (sealing key.now header.now stretch text.now out.old).place) }
 {
     let sealed = record::seal(key, header, StretchBytes(stretch), text, out);
-    *place = sealed.place as u64;
-    sealed.number
+    *place = place_of(sealed);
+    number_of(sealed)
 }
 
 // Opening, the numbered form, that also tells which entry of the header is bad.
@@ -56,8 +77,8 @@ pub fn aez_open_at(
     ensures { (result ≡ (opening key.now header.now stretch sealed.now out.old).number) × (out.new ≡ (opening key.now header.now stretch sealed.now out.old).output) × (place.new ≡ (opening key.now header.now stretch sealed.now out.old).place) }
 {
     let opened = record::open(key, header, StretchBytes(stretch), sealed, out);
-    *place = opened.place as u64;
-    opened.number
+    *place = place_of(opened);
+    number_of(opened)
 }
 
 // Reading a header by itself: 0 and how many strings it has, or 3 and which entry is bad.

@@ -1,7 +1,12 @@
-// What a door answers by, and the stretch in its two measures. Document 01, "Answer numbers" and "Header hash".
+// Why a door refuses, and the stretch in its two measures. Document 01, "Answer numbers" and "Header hash". A door answers the length of what
+// it wrote, or a refusal.
 #![tactic(auto)]
 
 ghost use Rattle.std.specs.Prelude.{◌≡◌, ◌*◌, ◌≤◌};
+ghost use Rattle.answer.specs.Outcomes.{number_of, place_of};
+ghost use Rattle.answer.specs.declared.Refusal.TheVariants.{BadHeader};
+
+use header::BadEntry;
 
 // An answer of document 01, and the length of what was written.
 #[derive(Clone, Copy)]
@@ -10,12 +15,61 @@ pub struct Answer {
     pub length: usize,
 }
 
-// An answer of a call that reads a header: beside 3 the number of the header's bad entry (request E5), and beside every other 0.
-#[derive(Clone, Copy)]
-pub struct AnswerAt {
-    pub number: u32,
-    pub length: usize,
-    pub place: usize,
+// Each refusal of document 01.
+#[derive(Clone, Copy, Debug, PartialEq, Eq)]
+pub enum Refusal {
+    KeyLength,
+    LongStretch,
+    BadHeader(BadEntry),
+    TooLong,
+    ShortSealed,
+    NoRoom,
+    DoesNotOpen,
+    LongItem,
+    NoRecord,
+    NoLocale,
+    NoPause,
+    BadList,
+}
+
+impl Refusal {
+    // Its number in document 01. The door that answers no refusal has the number 0.
+    pub fn number(self) -> u32
+        ensures { result ≡ number_of self }
+    {
+        match self {
+            Refusal::KeyLength => 1,
+            Refusal::LongStretch => 2,
+            Refusal::BadHeader(_) => 3,
+            Refusal::TooLong => 4,
+            Refusal::ShortSealed => 5,
+            Refusal::NoRoom => 6,
+            Refusal::DoesNotOpen => 7,
+            Refusal::LongItem => 8,
+            Refusal::NoRecord => 9,
+            Refusal::NoLocale => 15,
+            Refusal::NoPause => 16,
+            Refusal::BadList => 17,
+        }
+    }
+
+    // Beside 3 the number of the header's bad entry (request E5), and beside every other 0.
+    pub fn place(self) -> usize
+        ensures { result ≡ place_of self }
+    {
+        match self {
+            Refusal::BadHeader(bad) => bad.0,
+            _ => 0,
+        }
+    }
+}
+
+impl From<BadEntry> for Refusal {
+    ghost from_gives = { λ bad r. r ≡ BadHeader bad };
+
+    fn from(bad: BadEntry) -> Refusal {
+        Refusal::BadHeader(bad)
+    }
 }
 
 // The stretch in bytes, as callers have it.

@@ -12,7 +12,7 @@ use Rattle.laws.proofs.Counting.{NoRepeats, all_strings}
 use Rattle.laws.proofs.Demand3 as laws
 use Rattle.laws.proofs.Demand3.{Fixed}
 use Rattle.laws.proofs.Accepted as accepted
-use Rattle.answer.specs.declared.AnswerAt.{AnswerAt}
+use Rattle.answer.specs.Outcomes.{AnswerAt}
 use Rattle.audit.proofs.Demands.{Opened, Within, Seals, seals_defined, seals_called, opens_iff_sealed}
 
 module _ (key header : Bytes) (strings : List Bytes) (t : ℕ) (fixed : Fixed key header strings t) (n : ℕ) (least : t ≤ n) (most : n ≤ longest_sealed) where

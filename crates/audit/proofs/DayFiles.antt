@@ -20,9 +20,8 @@ use Rattle.laws.proofs.DayReading.{write_read}
 use Rattle.laws.proofs.DayLists.{headers_listed_lem, records_listed_lem}
 use Rattle.answer.specs.Outcomes.{outcome}
 use Rattle.answer.specs.declared.Answer.{Answer}
-use Rattle.answer.specs.declared.AnswerAt.{AnswerAt}
-use Rattle.settle.specs.declared.Refusal.{Refusal}
-use Rattle.settle.specs.Settled.{settled_sealing}
+use Rattle.answer.specs.Outcomes.{AnswerAt}
+use Rattle.settle.specs.Settled.{Settled, settled_sealing}
 use Rattle.settle.proofs.Settles.{Fits, sealing_fits, sealing_refused}
 use Rattle.day_write.specs.Settled.{settled_for}
 use Rattle.day_write.proofs.Writes.{Accepted, accepted, write_refused}
@@ -56,7 +55,7 @@ written r last = take r.length last
 pub sealed_passes : (key header : Bytes) (t : ℕ) (M out : Bytes) (r : AnswerAt) (last : Bytes) → Sealed key header t M out r last → r.number ≡ 0 → Fits key header t (length M) (length out)
 sealed_passes key header t M out r last call z = go (settled_sealing key header t (length M) (length out)) refl (eqb (settled_sealing key header t (length M) (length out)).number 0) refl
   where
-    go : (n : Refusal) → n ≡ settled_sealing key header t (length M) (length out) → (b : Bool) → eqb n.number 0 ≡ b → Fits key header t (length M) (length out)
+    go : (n : Settled) → n ≡ settled_sealing key header t (length M) (length out) → (b : Bool) → eqb n.number 0 ≡ b → Fits key header t (length M) (length out)
     go n s true e = sealing_fits key header t (length M) (length out) n s (eqb-true n.number 0 e)
     go n s false e =
         absurd (eqb-false n.number 0 e (sym (ap (λ (o : OutcomeAt). o.number) (call ∙ sealing_refused key header t M out n s (eqb-false n.number 0 e))) ∙ z))

@@ -19,10 +19,9 @@ use Rattle.laws.proofs.Tables.{no_entries}
 use Rattle.laws.proofs.Headers.{reads_as}
 use Rattle.laws.proofs.Demand3 as laws
 use Rattle.laws.proofs.Demand3.{Fixed}
-use Rattle.answer.specs.Outcomes.{outcome_at}
-use Rattle.answer.specs.declared.AnswerAt.{AnswerAt}
-use Rattle.settle.specs.declared.Refusal.{Refusal}
-use Rattle.settle.specs.Settled.{refusal, settled_common, settled_sealing, settled_opening}
+use Rattle.answer.specs.Outcomes.{outcome_of}
+use Rattle.answer.specs.Outcomes.{AnswerAt}
+use Rattle.settle.specs.Settled.{Settled, refusal, settled_common, settled_sealing, settled_opening}
 use Rattle.settle.proofs.Settles.{Fits, sealing_fits, sealing_refused, sealing_done, sealing_then, opening_refused, opening_opened, opening_then, opening_fits, opening_most}
 use Rattle.record.proofs.seal.Reads as seal-reads
 use Rattle.record.proofs.«open».Reads as open-reads
@@ -31,10 +30,10 @@ use Rattle.record.proofs.«open».Reads as open-reads
 
 -- a call that was lent these slices answered r and left these bytes in the output
 abbrev pub Sealed : (key header : Bytes) (t : ℕ) (text out : Bytes) (r : AnswerAt) (last : Bytes) → Type 0
-Sealed key header t text out r last = outcome_at r last ≡ sealing key header t text out
+Sealed key header t text out r last = outcome_of r last ≡ sealing key header t text out
 
 abbrev pub Opened : (key header : Bytes) (t : ℕ) (sealed out : Bytes) (r : AnswerAt) (last : Bytes) → Type 0
-Opened key header t sealed out r last = outcome_at r last ≡ opening key header t sealed out
+Opened key header t sealed out r last = outcome_of r last ≡ opening key header t sealed out
 
 -- they are the contracts that the checker made from the source
 pub seal_promises : (κs : _) (a : _) (r : _) (e : _) → seal-reads.Learnt κs a r e
@@ -70,7 +69,7 @@ module _ (key header : Bytes) (strings : List Bytes) (t : ℕ) (fixed : Fixed ke
   sealed_fits : (M out : Bytes) → (sealing key header t M out).number ≡ 0 → Fits key header t (length M) (length out)
   sealed_fits M out z = go (settled_sealing key header t (length M) (length out)) refl (eqb (settled_sealing key header t (length M) (length out)).number 0) refl
     where
-      go : (n : Refusal) → n ≡ settled_sealing key header t (length M) (length out) → (b : Bool) → eqb n.number 0 ≡ b → Fits key header t (length M) (length out)
+      go : (n : Settled) → n ≡ settled_sealing key header t (length M) (length out) → (b : Bool) → eqb n.number 0 ≡ b → Fits key header t (length M) (length out)
       go n s true e = sealing_fits key header t (length M) (length out) n s (eqb-true n.number 0 e)
       go n s false e = absurd (eqb-false n.number 0 e (sym (ap (λ (o : OutcomeAt). o.number) (sealing_refused key header t M out n s (eqb-false n.number 0 e))) ∙ z))
 
@@ -226,11 +225,11 @@ pub never_7_at_stretch_0 : (key header C out : Bytes) (r : AnswerAt) (last : Byt
     → Opened key header 0 C out r last → (r.number ≡ 7 → ⊥)
 never_7_at_stretch_0 key header C out r last k h b call seven = go (settled_opening key header 0 (length C) (length out)) refl (eqb (settled_opening key header 0 (length C) (length out)).number 0) refl
   where
-    go : (n : Refusal) → n ≡ settled_opening key header 0 (length C) (length out) → (t : Bool) → eqb n.number 0 ≡ t → ⊥
+    go : (n : Settled) → n ≡ settled_opening key header 0 (length C) (length out) → (t : Bool) → eqb n.number 0 ≡ t → ⊥
     go n s true e =
         let fits = opening_fits key header 0 (length C) (length out) n s (eqb-true n.number 0 e) in
         let fixed : Fixed key header fits.common.strings 0 =
         record { key_bytes = record { len = fits.common.key_long; low = k }; header_bytes = h; reads = fits.common.reads; short = fits.common.short } in
         omega (arith, opens_at_stretch_0 key header fits.common.strings 0 fixed C out (record { bytes = b; limit = fits.within }) fits.has_room r last call refl, seven)
     go n s false e =
-        omega (arith, opening_most key header 0 (length C) (length out), ap (λ (r : Refusal). r.number) s, ap (λ (o : OutcomeAt). o.number) (call ∙ opening_refused key header 0 C out n s (eqb-false n.number 0 e)), seven)
+        omega (arith, opening_most key header 0 (length C) (length out), ap (λ (r : Settled). r.number) s, ap (λ (o : OutcomeAt). o.number) (call ∙ opening_refused key header 0 C out n s (eqb-false n.number 0 e)), seven)

@@ -20,7 +20,10 @@ use Rattle.paper.specs.Figure6 as figure6
 use Rattle.paper.specs.Document01.{Outcome, OutcomeAt}
 use Rattle.answer.specs.Outcomes.{outcome, outcome_at}
 use Rattle.answer.specs.declared.Answer.{Answer}
-use Rattle.answer.specs.declared.AnswerAt.{AnswerAt}
+use Rattle.answer.specs.declared.Refusal.{Refusal}
+use Rattle.answer.proofs.Refusals.{one_answer, one_test}
+use Rattle.settle.specs.Settled.{Settled, settled_by}
+use Rattle.std.specs.Prelude.{Result}
 use Rattle.paper.specs.DayFile.{before, read_records, Listing}
 use Rattle.day_steps.specs.declared.Entry.{Entry}
 use Rattle.day_steps.specs.Walks.{record_of, RecordStep, HeadersWalk}
@@ -175,10 +178,14 @@ one_outcome z w X Y o p q =
     let e : outcome z X ≡ outcome w Y = one p q in
     (ap (λ (o : Outcome). record { number = o.number; length = o.size }) e, ap (λ (o : Outcome). o.output) e)
 
-one_outcome_at : (z w : AnswerAt) (X Y : Bytes) (o : OutcomeAt) → outcome_at z X ≡ o → outcome_at w Y ≡ o → (z ≡ w) × (X ≡ Y)
+one_outcome_at : (z w : Result ℕ Refusal) (X Y : Bytes) (o : OutcomeAt) → outcome_at z X ≡ o → outcome_at w Y ≡ o → (z ≡ w) × (X ≡ Y)
 one_outcome_at z w X Y o p q =
     let e : outcome_at z X ≡ outcome_at w Y = one p q in
-    (ap (λ (o : OutcomeAt). record { number = o.number; length = o.size; place = o.place }) e, ap (λ (o : OutcomeAt). o.output) e)
+    (one_answer z w (ap (λ (o : OutcomeAt). o.number) e) (ap (λ (o : OutcomeAt). o.size) e) (ap (λ (o : OutcomeAt). o.place) e), ap (λ (o : OutcomeAt). o.output) e)
+
+-- what the tests before a call settle
+one_settled : (z w : Result (Unit {0}) Refusal) (s : Settled) → settled_by z ≡ s → settled_by w ≡ s → z ≡ w
+one_settled z w s p q = let e : settled_by z ≡ settled_by w = one p q in one_test z w (ap (λ (s : Settled). s.number) e) (ap (λ (s : Settled). s.at) e)
 
 -- the same of a listing
 one_listing : (z w : Listed) (X Y : List ℕ) (o : Listing) → listing_as z X ≡ o → listing_as w Y ≡ o → (z ≡ w) × (X ≡ Y)
@@ -473,10 +480,10 @@ pub header_read_determined : (κs : _) (a : _) (z w : _) (e f : _) → header_re
 header_read_determined κs a z w e f p q = one p q
 
 pub settle_settled_sealing_determined : (κs : _) (a : _) (z w : _) (e f : _) → settle-settled-sealing.Learnt κs a z e → settle-settled-sealing.Learnt κs a w f → z ≡ w
-settle_settled_sealing_determined κs a z w e f p q = one p q
+settle_settled_sealing_determined κs a z w e f p q = one_settled z w _ p q
 
 pub settle_settled_opening_determined : (κs : _) (a : _) (z w : _) (e f : _) → settle-settled-opening.Learnt κs a z e → settle-settled-opening.Learnt κs a w f → z ≡ w
-settle_settled_opening_determined κs a z w e f p q = one p q
+settle_settled_opening_determined κs a z w e f p q = one_settled z w _ p q
 
 pub builder_put_determined : (κs : _) (a : _) (z w : _) (e f : _) → builder-put.Learnt κs a z e → builder-put.Learnt κs a w f → (z ≡ w) × (e.0.now ≡ f.0.now)
 builder_put_determined κs a z w e f p q = (one p.0 q.0, one p.1 q.1)

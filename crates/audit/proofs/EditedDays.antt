@@ -25,7 +25,7 @@ use Rattle.laws.proofs.DayCleared.{cleared_within, cleared_again, kept_record, k
 use Rattle.laws.proofs.DayGrown.{grown_within, grown_before, grown_last, same_headers}
 use Rattle.answer.specs.Outcomes.{outcome}
 use Rattle.answer.specs.declared.Answer.{Answer}
-use Rattle.answer.specs.declared.AnswerAt.{AnswerAt}
+use Rattle.answer.specs.Outcomes.{AnswerAt}
 use Rattle.day_clear.proofs.clear.Reads as clear_reads
 use Rattle.day_append.proofs.append.Reads as append-reads
 use Rattle.audit.proofs.Demands.{Sealed, open_after_seal}

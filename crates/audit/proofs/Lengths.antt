@@ -15,9 +15,8 @@ use Rattle.paper.specs.DayFile.{Record, Day, first_place, header_places, record_
 use Rattle.laws.proofs.BitStrings.{length_digits}
 use Rattle.laws.proofs.Demand3 as laws
 use Rattle.laws.proofs.Demand3.{Fixed}
-use Rattle.answer.specs.declared.AnswerAt.{AnswerAt}
-use Rattle.settle.specs.declared.Refusal.{Refusal}
-use Rattle.settle.specs.Settled.{settled_sealing, settled_opening}
+use Rattle.answer.specs.Outcomes.{AnswerAt}
+use Rattle.settle.specs.Settled.{Settled, settled_sealing, settled_opening}
 use Rattle.settle.proofs.Settles.{sealing_fits, sealing_refused, sealing_done, opening_fits, opening_refused}
 use Rattle.audit.proofs.Demands.{Sealed, Opened, Within, seals_defined, opens_iff_sealed, opening_returns}
 
@@ -27,7 +26,7 @@ pub sealed_length : (key header : Bytes) (t : ℕ) (text out : Bytes) (r : Answe
 sealed_length key header t text out r last call z =
     go (settled_sealing key header t (length text) (length out)) refl (eqb (settled_sealing key header t (length text) (length out)).number 0) refl
   where
-    go : (n : Refusal) → n ≡ settled_sealing key header t (length text) (length out) → (b : Bool) → eqb n.number 0 ≡ b → (r.length ≡ length text + t) × (r.length ≤ length out)
+    go : (n : Settled) → n ≡ settled_sealing key header t (length text) (length out) → (b : Bool) → eqb n.number 0 ≡ b → (r.length ≡ length text + t) × (r.length ≤ length out)
     go n s true e =
         let fits = sealing_fits key header t (length text) (length out) n s (eqb-true n.number 0 e) in
         let size = ap (λ (o : OutcomeAt). o.size) (call ∙ sealing_done key header t text out n fits.common.strings s (eqb-true n.number 0 e) fits.common.reads) in
@@ -41,7 +40,7 @@ pub opened_length : (key header : Bytes) (t : ℕ) (C out : Bytes) (r : AnswerAt
 opened_length key header t C out r last k h b call z =
     go (settled_opening key header t (length C) (length out)) refl (eqb (settled_opening key header t (length C) (length out)).number 0) refl
   where
-    go : (n : Refusal) → n ≡ settled_opening key header t (length C) (length out) → (b : Bool) → eqb n.number 0 ≡ b → (t ≤ length C) × (r.length ≡ length C - t) × (r.length ≤ length out)
+    go : (n : Settled) → n ≡ settled_opening key header t (length C) (length out) → (b : Bool) → eqb n.number 0 ≡ b → (t ≤ length C) × (r.length ≡ length C - t) × (r.length ≤ length out)
     go n s true e =
         let fits = opening_fits key header t (length C) (length out) n s (eqb-true n.number 0 e) in
         let ss : List Bytes = fits.common.strings in

@@ -20,7 +20,7 @@ use Rattle.laws.proofs.Demand3.{Fixed}
 use Rattle.laws.proofs.DayWritten.{RecordsFit}
 use Rattle.laws.proofs.DayReading.{read_write, record_fits_lem}
 use Rattle.laws.proofs.DayPlaces.{header_stands}
-use Rattle.answer.specs.declared.AnswerAt.{AnswerAt}
+use Rattle.answer.specs.Outcomes.{AnswerAt}
 use Rattle.aez.proofs.aez_report.Reads as exported-report
 use Rattle.aez.proofs.aez_report_figures.Reads as exported-figures
 use Rattle.audit.proofs.Demands.{Sealed, written_long, open_after_seal}

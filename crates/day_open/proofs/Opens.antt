@@ -9,8 +9,7 @@ use Rattle.paper.specs.Strings.{Bytes, Below}
 use Rattle.paper.specs.Document01.{refused, opening}
 use Rattle.paper.specs.DayFile.{Record, Day, place_of, header_place, header_of, read_day, open_record, open_in, opening_record}
 use Rattle.laws.proofs.DayPlaces.{header_stands}
-use Rattle.answer.specs.Outcomes.{outcome, outcome_at}
-use Rattle.answer.specs.declared.AnswerAt.{AnswerAt}
+use Rattle.answer.specs.Outcomes.{AnswerAt, outcome, outcome_of}
 use Rattle.std.specs.Prelude.{None, Some}
 use Rattle.day_find.specs.declared.Found.{Found}
 use Rattle.day.specs.Checks.{checked_as, checked_day}
@@ -78,7 +77,7 @@ module _ (key f : Bytes) (low : Below 256 f) (records k : ℕ) (s : Stands f rec
   stretch_is = ap (λ (x : Found). x.stretch) found_own
 
   pub opens_found : (a : AnswerAt) (last out : Bytes)
-      → outcome_at a last ≡ opening key (take (found.header_end - found.header_start) (drop found.header_start f)) found.stretch (take (found.end - found.start) (drop found.start f)) out
+      → outcome_of a last ≡ opening key (take (found.header_end - found.header_start) (drop found.header_start f)) found.stretch (take (found.end - found.start) (drop found.start f)) out
       → outcome (record { number = a.number; length = a.length }) last ≡ opening_record key f k out
   unfolding opening_record open_in open_record
   opens_found a last out e =

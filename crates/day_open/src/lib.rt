@@ -24,15 +24,18 @@ pub fn open(key: &[u8], file: &[u8], k: usize, out: &mut [u8]) -> Answer
         };
     }
     let f = day_find::find(file, day.records, k);
-    let answer = record::open(
+    let opened = record::open(
         key,
         &file[f.header_start..f.header_end],
         StretchBytes(f.stretch),
         &file[f.start..f.end],
         out,
     );
-    Answer {
-        number: answer.number,
-        length: answer.length,
+    match opened {
+        Ok(length) => Answer { number: 0, length },
+        Err(refusal) => Answer {
+            number: refusal.number(),
+            length: 0,
+        },
     }
 }

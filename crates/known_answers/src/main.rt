@@ -8,7 +8,7 @@
 
 ghost use Rattle.std.specs.Prelude.{◌<◌, ◌≤◌, length};
 
-use answer::{Answer, AnswerAt, StretchBytes};
+use answer::{Answer, Refusal, StretchBytes};
 use std::io::{self, ErrorKind, Read};
 
 // The value of a hex digit, and 0 for any other byte.
@@ -134,10 +134,13 @@ fn part(s: &[u8], at: usize, n: usize) -> &[u8] {
 }
 
 // What a vector has of an answer: the number and the length.
-fn without_place(r: AnswerAt) -> Answer {
-    Answer {
-        number: r.number,
-        length: r.length,
+fn in_numbers(r: Result<usize, Refusal>) -> Answer {
+    match r {
+        Ok(length) => Answer { number: 0, length },
+        Err(refusal) => Answer {
+            number: refusal.number(),
+            length: 0,
+        },
     }
 }
 
@@ -147,8 +150,8 @@ fn call(v: First, s: &[u8], out: &mut [u8]) -> Answer {
     let b = part(s, 65600, v.b);
     let c = part(s, 131200, v.c);
     match v.which {
-        b's' => without_place(record::seal(a, b, StretchBytes(v.stretch), c, out)),
-        b'o' => without_place(record::open(a, b, StretchBytes(v.stretch), c, out)),
+        b's' => in_numbers(record::seal(a, b, StretchBytes(v.stretch), c, out)),
+        b'o' => in_numbers(record::open(a, b, StretchBytes(v.stretch), c, out)),
         _ => builder::log_header(a, b, c, part(s, 196800, v.d), out),
     }
 }

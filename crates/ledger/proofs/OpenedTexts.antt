@@ -21,8 +21,7 @@ use Rattle.laws.proofs.Demand3 as laws
 use Rattle.laws.proofs.Demand3.{Fixed}
 use Rattle.laws.proofs.PauseParts.{Mark, most_bytes}
 use Rattle.laws.proofs.LedgerSums.{IfMark, header_mark_lem}
-use Rattle.settle.specs.declared.Refusal.{Refusal}
-use Rattle.settle.specs.Settled.{settled_opening}
+use Rattle.settle.specs.Settled.{Settled, settled_opening}
 use Rattle.settle.proofs.Settles.{opening_fits, opening_refused, opening_opened}
 use Rattle.std.specs.Prelude.{None, Some}
 use Rattle.std.specs.Prelude as std
@@ -59,7 +58,7 @@ module _ (key header : Bytes) (t : ℕ) (C out : Bytes) (key_low : Below 256 key
             short = fixed.short;
           }
 
-      settled : (n : Refusal) → n ≡ settled_opening key header t (length C) (length out) → (b : Bool) → eqb n.number 0 ≡ b → Text t C o
+      settled : (n : Settled) → n ≡ settled_opening key header t (length C) (length out) → (b : Bool) → eqb n.number 0 ≡ b → Text t C o
       settled n s true e =
           let fits = opening_fits key header t (length C) (length out) n s (eqb-true n.number 0 e) in
           let ss : List Bytes = fits.common.strings in

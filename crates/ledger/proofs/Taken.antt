@@ -12,8 +12,7 @@ use Rattle.paper.specs.Document01.{OutcomeAt, read_header, opening}
 use Rattle.paper.specs.DayFile.{Record, Day, read_day}
 use Rattle.paper.specs.Pause.{Pause, no_pause, read_pause, pause_read, pausing}
 use Rattle.paper.specs.Ledger.{opened_pause, pause_of, pauses_of}
-use Rattle.answer.specs.Outcomes.{outcome_at}
-use Rattle.answer.specs.declared.AnswerAt.{AnswerAt}
+use Rattle.answer.specs.Outcomes.{AnswerAt, outcome_of}
 use Rattle.std.specs.Prelude.{None, Some, Result, Ok, Err}
 use Rattle.std.specs.Result.{result_ok}
 use Rattle.pause_mark.specs.declared.NoMark.{NoMark}
@@ -40,8 +39,8 @@ module _ (key header : Bytes) (t : ℕ) (C : Bytes) where
   no_locale Locale e = either_way key header t C (λ text z f. ap taken_as (sym (by_mark header text (Err Locale) e)))
 
   -- an answer over an output of zeros, of just the string's length
-  module _ (a : AnswerAt) (last out : Bytes) (zeros : out ≡ replicate (length C) 0) (call : outcome_at a last ≡ opening key header t C out) where
-    is_opening : outcome_at a last ≡ opening key header t C (replicate (length C) 0)
+  module _ (a : AnswerAt) (last out : Bytes) (zeros : out ≡ replicate (length C) 0) (call : outcome_of a last ≡ opening key header t C out) where
+    is_opening : outcome_of a last ≡ opening key header t C (replicate (length C) 0)
     is_opening = call ∙ ap (opening key header t C) zeros
 
     pub no_text : (a.number ≡ 0 → ⊥) → None ≡ taken_as (opened_pause key header t C)

@@ -37,11 +37,10 @@ fn open_in(
     requires { (Ok mark ≡ mark_as (read_header header.now)) × (out.old ≡ replicate (length sealed.now) 0) }
     ensures { result ≡ taken_as (opened_pause key.now header.now stretch sealed.now) }
 {
-    let answer = record::open(key, header, StretchBytes(stretch), sealed, &mut *out);
-    if answer.number != 0 {
+    let Ok(length) = record::open(key, header, StretchBytes(stretch), sealed, &mut *out) else {
         return None;
-    }
-    pause_text::read_text(mark, &out[..answer.length])
+    };
+    pause_text::read_text(mark, &out[..length])
 }
 
 // The longest sealed string that is opened.

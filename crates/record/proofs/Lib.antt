@@ -1,2 +1,2 @@
-mod Whole
-mod Parts
+pub mod Whole
+pub mod Parts

@@ -5,70 +5,45 @@ ghost use Rattle.std.specs.Prelude.{◌≡◌};
 ghost use Rattle.paper.specs.Document01.{sealing, opening, opened_part};
 ghost use Rattle.answer.specs.Outcomes.{outcome_at};
 
-use answer::{AnswerAt, StretchBytes};
+use answer::{Refusal, StretchBytes};
 
-// Sealing. Nothing is written before the answer is settled.
+// Sealing: the length of the sealed string. Nothing is written before the answer is settled.
 pub fn seal(
     key: &[u8],
     header: &[u8],
     stretch: StretchBytes,
     text: &[u8],
     out: &mut [u8],
-) -> AnswerAt
+) -> Result<usize, Refusal>
     ensures { outcome_at result out.new ≡ sealing key.now header.now stretch.0 text.now out.old }
 {
-    let refused = settle::settled_sealing(key, header, stretch, text.len(), out.len());
-    if refused.number != 0 {
-        return AnswerAt {
-            number: refused.number,
-            length: 0,
-            place: refused.at,
-        };
-    }
+    settle::settled_sealing(key, header, stretch, text.len(), out.len())?;
     let k = key::key_of(key);
     let delta = hash::delta(k, stretch.bits(), header);
     let length = text.len() + stretch.0 as usize;
-    cipher::encrypt(k, delta, text, &mut out[0..length]);
-    AnswerAt {
-        number: 0,
-        length,
-        place: 0,
-    }
+    cipher::encrypt(k, delta, text, &mut out[..length]);
+    Ok(length)
 }
 
-// Opening, the numbered form. Nothing is written before answers 1 to 6 are settled.
+// Opening, the numbered form: the length of the text. Nothing is written before answers 1 to 6 are settled.
 pub fn open(
     key: &[u8],
     header: &[u8],
     stretch: StretchBytes,
     sealed: &[u8],
     out: &mut [u8],
-) -> AnswerAt
+) -> Result<usize, Refusal>
     ensures { outcome_at result out.new ≡ opening key.now header.now stretch.0 sealed.now out.old }
 {
-    let refusal = settle::settled_opening(key, header, stretch, sealed.len(), out.len());
-    if refusal.number != 0 {
-        return AnswerAt {
-            number: refusal.number,
-            length: 0,
-            place: refusal.at,
-        };
-    }
+    settle::settled_opening(key, header, stretch, sealed.len(), out.len())?;
     let k = key::key_of(key);
     let delta = hash::delta(k, stretch.bits(), header);
     let n = sealed.len();
     let t = stretch.0 as usize;
-    if cipher::decrypt(k, delta, t, sealed, &mut out[0..n]) {
-        return AnswerAt {
-            number: 0,
-            length: n - t,
-            place: 0,
-        };
-    }
-    AnswerAt {
-        number: 7,
-        length: 0,
-        place: 0,
+    if cipher::decrypt(k, delta, t, sealed, &mut out[..n]) {
+        Ok(n - t)
+    } else {
+        Err(Refusal::DoesNotOpen)
     }
 }
 
@@ -82,7 +57,6 @@ pub fn open_part<'a>(
 ) -> &'a mut [u8]
     ensures { (result.ref_ptr ≡ out.entry.ref_ptr) × (result.now ≡ opened_part key.now header.now stretch.0 sealed.now out.old) }
 {
-    let answer = open(key, header, stretch, sealed, &mut *out);
-    let n = answer.length;
-    &mut out[0..n]
+    let n = open(key, header, stretch, sealed, &mut *out).unwrap_or(0);
+    &mut out[..n]
 }

@@ -3,9 +3,9 @@ use mathlib.Core.Bool.{Bool, true, false, not}
 use mathlib.Core.List.{List, [], ◌∷◌}
 use mathlib.Core.Option.{some}
 use mathlib.Core.Path.{◌≡◌, refl, ap, sym, subst, ◌∙◌}
-use Prim.Native.Nat.{ℕ, ◌+◌, ◌≤◌}
+use Prim.Native.Nat.{ℕ, ◌+◌, ◌≤◌, ◌<◌}
 use native.Mathlib.Omega.{arith}
-use borrow.Author.Tests.{eq-eqb, ne_eqb, eqb-true, eqb-false, le-ltb, ltb-false}
+use borrow.Author.Tests.{eq-eqb, ne_eqb, eqb-true, eqb-false, lt-ltb, le-ltb, ltb-false}
 use lib.Dec.{eqb, ltb}
 use lib.ListN.{length}
 use Rattle.std.specs.Prelude.{if◌then◌else◌}
@@ -14,22 +14,27 @@ use Rattle.paper.specs.Figure6.{key_of, E}
 use Rattle.paper.specs.Figure5.{encrypt, decrypt}
 use Rattle.paper.specs.Document01.{OutcomeAt, beside, Read, as_strings, bad_entry, reading, strings_of, read_header, refused, done, longest_sealed, longest_stretch, seal_under, sealing, opened, open_under, opening}
 use Rattle.laws.proofs.Headers.{reads_as}
-use Rattle.settle.specs.declared.Refusal.{Refusal}
-use Rattle.settle.specs.Settled.{refusal, unread, settled_common, first, settled_sealing, settled_opening}
+use Rattle.std.specs.Prelude.{Ok, Err}
+use Rattle.header.specs.declared.BadEntry.{BadEntry}
+use Rattle.header.specs.Places.{read_as}
+use Rattle.answer.specs.declared.Refusal.{Refusal}
+use Rattle.answer.specs.Outcomes.{number_of, place_of}
+use Rattle.answer.proofs.Refusals.{refuses}
+use Rattle.settle.specs.Settled.{Settled, refusal, unread, settled_common, first, settled_sealing, settled_opening}
 
 -- ---- Tests in their order
 
 -- what is answered where the test holds, and whether it holds
 data Test : Type 0 where
-  test : Refusal → Bool → Test
+  test : Settled → Bool → Test
 
 -- the first that holds, or 0
-abbrev settles : List Test → Refusal
+abbrev settles : List Test → Settled
 settles [] = refusal 0 0
 settles (test r b ∷ ts) = if b then r else settles ts
 
 -- the outcome of a refusal
-abbrev pub refused_by : Refusal → Bytes → OutcomeAt
+abbrev pub refused_by : Settled → Bytes → OutcomeAt
 refused_by r out = beside r.at (refused r.number out)
 
 -- the refusal of the first that holds, or what is done once all are passed
@@ -43,7 +48,7 @@ Passes [] = Unit {0}
 Passes (test r b ∷ ts) = (b ≡ false) × Passes ts
 
 -- each refusal has P
-abbrev Each : (Refusal → Type 0) → List Test → Type 0
+abbrev Each : (Settled → Type 0) → List Test → Type 0
 Each P [] = Unit {0}
 Each P (test r b ∷ ts) = P r × Each P ts
 
@@ -53,14 +58,14 @@ passes (test r true ∷ ts) h e = absurd (omega (arith, e, h.0))
 passes (test r false ∷ ts) h e = (refl, passes ts h.1 e)
 
 -- what 0 and each refusal have, the settled one has
-settles_in : (P : Refusal → Type 0) (ts : List Test) → P (refusal 0 0) → Each P ts → P (settles ts)
+settles_in : (P : Settled → Type 0) (ts : List Test) → P (refusal 0 0) → Each P ts → P (settles ts)
 settles_in P [] z h = z
 settles_in P (test r true ∷ ts) z h = h.0
 settles_in P (test r false ∷ ts) z h = settles_in P ts z h.1
 
-call_refused : (ts : List Test) (o : OutcomeAt) (out : Bytes) (r : Refusal) → r ≡ settles ts → (r.number ≡ 0 → ⊥) → call ts o out ≡ refused_by r out
-call_refused [] o out r e f = absurd (f (ap (λ (s : Refusal). s.number) e))
-call_refused (test s true ∷ ts) o out r e f = ap (λ (q : Refusal). refused_by q out) (sym e)
+call_refused : (ts : List Test) (o : OutcomeAt) (out : Bytes) (r : Settled) → r ≡ settles ts → (r.number ≡ 0 → ⊥) → call ts o out ≡ refused_by r out
+call_refused [] o out r e f = absurd (f (ap (λ (s : Settled). s.number) e))
+call_refused (test s true ∷ ts) o out r e f = ap (λ (q : Settled). refused_by q out) (sym e)
 call_refused (test s false ∷ ts) o out r e f = call_refused ts o out r e f
 
 call_done : (ts : List Test) (o : OutcomeAt) (out : Bytes) → Passes ts → call ts o out ≡ o
@@ -75,22 +80,22 @@ call_in P (test r false ∷ ts) o out h p = call_in P ts o out h.1 p
 
 -- ---- The first of two whose number is not 0
 
-first_other : (m n : Refusal) → (m.number ≡ 0 → ⊥) → first m n ≡ m
+first_other : (m n : Settled) → (m.number ≡ 0 → ⊥) → first m n ≡ m
 first_other m n f = ap (λ (b : Bool). if b then n else m) (ne_eqb m.number 0 f)
 
-first_none : (m n : Refusal) → m.number ≡ 0 → first m n ≡ n
+first_none : (m n : Settled) → m.number ≡ 0 → first m n ≡ n
 first_none m n e = ap (λ (b : Bool). if b then n else m) (eq-eqb m.number 0 e)
 
 -- one that is m, and not 0
-pub first_is : (m later n : Refusal) → n ≡ m → (n.number ≡ 0 → ⊥) → n ≡ first m later
-first_is m later n e f = e ∙ sym (first_other m later (λ z. f (ap (λ (r : Refusal). r.number) e ∙ z)))
+pub first_is : (m later n : Settled) → n ≡ m → (n.number ≡ 0 → ⊥) → n ≡ first m later
+first_is m later n e f = e ∙ sym (first_other m later (λ z. f (ap (λ (r : Settled). r.number) e ∙ z)))
 
-first_0 : (m n : Refusal) → (first m n).number ≡ 0 → m.number ≡ 0
+first_0 : (m n : Settled) → (first m n).number ≡ 0 → m.number ≡ 0
 first_0 m n e = go (eqb m.number 0) refl
   where
     go : (b : Bool) → eqb m.number 0 ≡ b → m.number ≡ 0
     go true p = eqb-true m.number 0 p
-    go false p = ap (λ (r : Refusal). r.number) (sym (first_other m n (eqb-false m.number 0 p))) ∙ e
+    go false p = ap (λ (r : Settled). r.number) (sym (first_other m n (eqb-false m.number 0 p))) ∙ e
 
 -- 3 holds
 abbrev unreadable : Read → Bool
@@ -145,18 +150,18 @@ module _ (key header : Bytes) (stretch : ℕ) where
       go true false (bad_entry k) = refl
       go true false (as_strings ss) = refl
 
-  then_later : (later : List Test) (r : Refusal) → r ≡ settled_common key header stretch → r.number ≡ 0 → settles later ≡ first (settled_common key header stretch) (settles later)
-  then_later later r e z = sym (first_none (settled_common key header stretch) (settles later) (ap (λ (q : Refusal). q.number) (sym e) ∙ z))
+  then_later : (later : List Test) (r : Settled) → r ≡ settled_common key header stretch → r.number ≡ 0 → settles later ≡ first (settled_common key header stretch) (settles later)
+  then_later later r e z = sym (first_none (settled_common key header stretch) (settles later) (ap (λ (q : Settled). q.number) (sym e) ∙ z))
 
   -- where the number is 0, they and the later ones are passed
-  all_passed : (later : List Test) → Each (λ r. 1 ≤ r.number) later → (r : Refusal) → r ≡ first (settled_common key header stretch) (settles later) → r.number ≡ 0 → Passed × Passes later
+  all_passed : (later : List Test) → Each (λ r. 1 ≤ r.number) later → (r : Settled) → r ≡ first (settled_common key header stretch) (settles later) → r.number ≡ 0 → Passed × Passes later
   all_passed later positive r e z =
-      let number : (first (settled_common key header stretch) (settles later)).number ≡ 0 = ap (λ (q : Refusal). q.number) (sym e) ∙ z in
+      let number : (first (settled_common key header stretch) (settles later)).number ≡ 0 = ap (λ (q : Settled). q.number) (sym e) ∙ z in
       let common : (settled_common key header stretch).number ≡ 0 = first_0 (settled_common key header stretch) (settles later) number in
-      (passed common, passes later positive (ap (λ (q : Refusal). q.number) (sym (first_none (settled_common key header stretch) (settles later) common)) ∙ number))
+      (passed common, passes later positive (ap (λ (q : Settled). q.number) (sym (first_none (settled_common key header stretch) (settles later) common)) ∙ number))
 
   -- what 0 and each of the refusals have, the settled one has
-  settled_in : (later : List Test) (P : Refusal → Type 0) → P (refusal 0 0) → P (refusal 1 0) → P (refusal 2 0) → ((k : ℕ) → P (refusal 3 k)) → Each P later
+  settled_in : (later : List Test) (P : Settled → Type 0) → P (refusal 0 0) → P (refusal 1 0) → P (refusal 2 0) → ((k : ℕ) → P (refusal 3 k)) → Each P later
       → P (first (settled_common key header stretch) (settles later))
   settled_in later P z p1 p2 p3 h = subst P (sym (first_tests later)) (settles_in P (tests later) z (p1, (p2, (by (reading header), h))))
     where
@@ -166,7 +171,7 @@ module _ (key header : Bytes) (stretch : ℕ) where
 
   -- ---- A call with later tests: r is what all of them settle, and once they are passed the rest is done with the header's strings
 
-  record Door (later : List Test) (r : Refusal) (rest : List Bytes → OutcomeAt) (out : Bytes) (result : OutcomeAt) : Type 0 where
+  record Door (later : List Test) (r : Settled) (rest : List Bytes → OutcomeAt) (out : Bytes) (result : OutcomeAt) : Type 0 where
     settled : r ≡ first (settled_common key header stretch) (settles later)
     is_call : result ≡ call (tests later) (headed rest out (reading header)) out
 
@@ -182,11 +187,11 @@ module _ (key header : Bytes) (stretch : ℕ) where
       by (bad_entry k) = p k
       by (as_strings strings) = q strings
 
-  module _ {later : List Test} {number : Refusal} {rest : List Bytes → OutcomeAt} {out : Bytes} {result : OutcomeAt} (door : Door later number rest out result) where
-    door_refused : (r : Refusal) → r ≡ number → (r.number ≡ 0 → ⊥) → result ≡ refused_by r out
+  module _ {later : List Test} {number : Settled} {rest : List Bytes → OutcomeAt} {out : Bytes} {result : OutcomeAt} (door : Door later number rest out result) where
+    door_refused : (r : Settled) → r ≡ number → (r.number ≡ 0 → ⊥) → result ≡ refused_by r out
     door_refused r e f = door.is_call ∙ call_refused (tests later) (headed rest out (reading header)) out r (e ∙ door.settled ∙ first_tests later) f
 
-    door_done : Each (λ r. 1 ≤ r.number) later → (r : Refusal) (strings : List Bytes) → r ≡ number → r.number ≡ 0 → read_header header ≡ some strings → result ≡ rest strings
+    door_done : Each (λ r. 1 ≤ r.number) later → (r : Settled) (strings : List Bytes) → r ≡ number → r.number ≡ 0 → read_header header ≡ some strings → result ≡ rest strings
     door_done positive r strings e z h =
         let reads : reading header ≡ as_strings strings = reads_as header strings h in
         let all = all_passed later positive r (e ∙ door.settled) z in
@@ -216,7 +221,7 @@ module _ (key header : Bytes) (stretch : ℕ) where
   abbrev sealing_tests : ℕ → ℕ → List Test
   sealing_tests text out = sealing_later (ltb longest_sealed (text + stretch)) (ltb out (text + stretch))
 
-  pub sealing_then : (text room : ℕ) (r : Refusal) (c d : Bool) → r ≡ settled_common key header stretch → r.number ≡ 0
+  pub sealing_then : (text room : ℕ) (r : Settled) (c d : Bool) → r ≡ settled_common key header stretch → r.number ≡ 0
       → ltb longest_sealed (text + stretch) ≡ c → ltb room (text + stretch) ≡ d
       → (if c then refusal 4 0 else if d then refusal 6 0 else refusal 0 0) ≡ settled_sealing key header stretch text room
   unfolding settled_sealing
@@ -237,11 +242,11 @@ module _ (key header : Bytes) (stretch : ℕ) where
           is_call = under_header (sealing_tests (length text) (length out)) (λ r. seal_under r key stretch text out) sealed_with out (λ k. refl) (λ ss. refl);
         }
 
-    pub sealing_refused : (r : Refusal) → r ≡ settled_sealing key header stretch (length text) (length out) → (r.number ≡ 0 → ⊥)
+    pub sealing_refused : (r : Settled) → r ≡ settled_sealing key header stretch (length text) (length out) → (r.number ≡ 0 → ⊥)
         → sealing key header stretch text out ≡ refused_by r out
     sealing_refused = door_refused sealing_door
 
-    pub sealing_done : (r : Refusal) (strings : List Bytes) → r ≡ settled_sealing key header stretch (length text) (length out) → r.number ≡ 0
+    pub sealing_done : (r : Settled) (strings : List Bytes) → r ≡ settled_sealing key header stretch (length text) (length out) → r.number ≡ 0
         → read_header header ≡ some strings → sealing key header stretch text out ≡ sealed_with strings
     sealing_done = door_done sealing_door (omega arith, (omega arith, tt))
 
@@ -256,7 +261,7 @@ module _ (key header : Bytes) (stretch : ℕ) where
     pub within : text + stretch ≤ longest_sealed
     pub has_room : text + stretch ≤ out
 
-  pub sealing_fits : (text out : ℕ) (r : Refusal) → r ≡ settled_sealing key header stretch text out → r.number ≡ 0 → Fits text out
+  pub sealing_fits : (text out : ℕ) (r : Settled) → r ≡ settled_sealing key header stretch text out → r.number ≡ 0 → Fits text out
   unfolding settled_sealing
   sealing_fits text out r e z =
       let all = all_passed (sealing_tests text out) (omega arith, (omega arith, tt)) r e z in
@@ -276,7 +281,7 @@ module _ (key header : Bytes) (stretch : ℕ) where
   abbrev opening_tests : ℕ → ℕ → List Test
   opening_tests sealed out = opening_later (ltb longest_sealed sealed) (ltb sealed stretch) (ltb out sealed)
 
-  pub opening_then : (sealed out : ℕ) (found : Refusal) (c d f : Bool) → found ≡ settled_common key header stretch → found.number ≡ 0
+  pub opening_then : (sealed out : ℕ) (found : Settled) (c d f : Bool) → found ≡ settled_common key header stretch → found.number ≡ 0
       → ltb longest_sealed sealed ≡ c → ltb sealed stretch ≡ d → ltb out sealed ≡ f
       → (if c then refusal 4 0 else if d then refusal 5 0 else if f then refusal 6 0 else refusal 0 0) ≡ settled_opening key header stretch sealed out
   unfolding settled_opening
@@ -296,11 +301,11 @@ module _ (key header : Bytes) (stretch : ℕ) where
           is_call = under_header (opening_tests (length sealed) (length out)) (λ r. open_under r key stretch sealed out) opened_with out (λ k. refl) (λ ss. refl);
         }
 
-    pub opening_refused : (r : Refusal) → r ≡ settled_opening key header stretch (length sealed) (length out) → (r.number ≡ 0 → ⊥)
+    pub opening_refused : (r : Settled) → r ≡ settled_opening key header stretch (length sealed) (length out) → (r.number ≡ 0 → ⊥)
         → opening key header stretch sealed out ≡ refused_by r out
     opening_refused = door_refused opening_door
 
-    pub opening_opened : (r : Refusal) (strings : List Bytes) → r ≡ settled_opening key header stretch (length sealed) (length out) → r.number ≡ 0
+    pub opening_opened : (r : Settled) (strings : List Bytes) → r ≡ settled_opening key header stretch (length sealed) (length out) → r.number ≡ 0
         → read_header header ≡ some strings → opening key header stretch sealed out ≡ opened_with strings
     opening_opened = door_done opening_door (omega arith, (omega arith, (omega arith, tt)))
 
@@ -315,7 +320,7 @@ module _ (key header : Bytes) (stretch : ℕ) where
     pub least : stretch ≤ sealed
     pub has_room : sealed ≤ out
 
-  pub opening_fits : (sealed out : ℕ) (r : Refusal) → r ≡ settled_opening key header stretch sealed out → r.number ≡ 0 → Openable sealed out
+  pub opening_fits : (sealed out : ℕ) (r : Settled) → r ≡ settled_opening key header stretch sealed out → r.number ≡ 0 → Openable sealed out
   unfolding settled_opening
   opening_fits sealed out r e z =
       let all = all_passed (opening_tests sealed out) (omega arith, (omega arith, (omega arith, tt))) r e z in
@@ -331,3 +336,63 @@ module _ (key header : Bytes) (stretch : ℕ) where
   unfolding settled_opening
   opening_most sealed out =
       settled_in (opening_tests sealed out) (λ r. r.number ≤ 6) (omega arith) (omega arith) (omega arith) (λ k. omega arith) (omega arith, (omega arith, (omega arith, tt)))
+
+-- ---- What each test settles, by the facts that it asks about
+
+-- what the reader's two answers say of test 3
+not_read : (r : Read) (bad : BadEntry) → Err bad ≡ read_as r → refusal 3 bad.0 ≡ unread r
+not_read (bad_entry j) bad e = cc
+not_read (as_strings ss) bad e = cc
+
+is_read : (r : Read) (n : ℕ) → Ok n ≡ read_as r → refusal 0 0 ≡ unread r
+is_read (bad_entry j) n e = cc
+is_read (as_strings ss) n e = refl
+
+module _ (key header : Bytes) (t : ℕ) where
+  pub common_1 : (length key ≡ 48 → ⊥) → refusal 1 0 ≡ settled_common key header t
+  common_1 p = common_then key header t false (ltb longest_stretch t) (ne_eqb _ _ p) refl
+
+  pub common_2 : length key ≡ 48 → longest_stretch < t → refusal 2 0 ≡ settled_common key header t
+  common_2 p q = common_then key header t true true (eq-eqb _ _ p) (lt-ltb _ _ q)
+
+  pub common_3 : (bad : BadEntry) → length key ≡ 48 → t ≤ longest_stretch → Err bad ≡ read_as (reading header) → refusal 3 bad.0 ≡ settled_common key header t
+  common_3 bad p q e = not_read (reading header) bad e ∙ common_then key header t true false (eq-eqb _ _ p) (le-ltb _ _ q)
+
+  pub common_0 : (n : ℕ) → length key ≡ 48 → t ≤ longest_stretch → Ok n ≡ read_as (reading header) → refusal 0 0 ≡ settled_common key header t
+  common_0 n p q e = is_read (reading header) n e ∙ common_then key header t true false (eq-eqb _ _ p) (le-ltb _ _ q)
+
+  module _ (text room : ℕ) where
+    pub sealing_first : (r : Refusal) → refusal (number_of r) (place_of r) ≡ settled_common key header t → refusal (number_of r) (place_of r) ≡ settled_sealing key header t text room
+    unfolding settled_sealing
+    sealing_first r e = first_is (settled_common key header t) _ (refusal (number_of r) (place_of r)) e (refuses r)
+
+    module _ (passed_first : refusal 0 0 ≡ settled_common key header t) where
+      pub short_stretch : t ≤ longest_stretch
+      short_stretch = (passed key header t (ap (λ (r : Settled). r.number) (sym passed_first))).short
+
+      pub sealing_4 : longest_sealed < text + t → refusal 4 0 ≡ settled_sealing key header t text room
+      sealing_4 p = sealing_then key header t text room (refusal 0 0) true (ltb room (text + t)) passed_first refl (lt-ltb _ _ p) refl
+
+      pub sealing_6 : text + t ≤ longest_sealed → room < text + t → refusal 6 0 ≡ settled_sealing key header t text room
+      sealing_6 p q = sealing_then key header t text room (refusal 0 0) false true passed_first refl (le-ltb _ _ p) (lt-ltb _ _ q)
+
+      pub sealing_0 : text + t ≤ longest_sealed → text + t ≤ room → refusal 0 0 ≡ settled_sealing key header t text room
+      sealing_0 p q = sealing_then key header t text room (refusal 0 0) false false passed_first refl (le-ltb _ _ p) (le-ltb _ _ q)
+
+  module _ (sealed room : ℕ) where
+    pub opening_first : (r : Refusal) → refusal (number_of r) (place_of r) ≡ settled_common key header t → refusal (number_of r) (place_of r) ≡ settled_opening key header t sealed room
+    unfolding settled_opening
+    opening_first r e = first_is (settled_common key header t) _ (refusal (number_of r) (place_of r)) e (refuses r)
+
+    module _ (passed_first : refusal 0 0 ≡ settled_common key header t) where
+      pub opening_4 : longest_sealed < sealed → refusal 4 0 ≡ settled_opening key header t sealed room
+      opening_4 p = opening_then key header t sealed room (refusal 0 0) true (ltb sealed t) (ltb room sealed) passed_first refl (lt-ltb _ _ p) refl refl
+
+      pub opening_5 : sealed ≤ longest_sealed → sealed < t → refusal 5 0 ≡ settled_opening key header t sealed room
+      opening_5 p q = opening_then key header t sealed room (refusal 0 0) false true (ltb room sealed) passed_first refl (le-ltb _ _ p) (lt-ltb _ _ q) refl
+
+      pub opening_6 : sealed ≤ longest_sealed → t ≤ sealed → room < sealed → refusal 6 0 ≡ settled_opening key header t sealed room
+      opening_6 p q r = opening_then key header t sealed room (refusal 0 0) false false true passed_first refl (le-ltb _ _ p) (le-ltb _ _ q) (lt-ltb _ _ r)
+
+      pub opening_0 : sealed ≤ longest_sealed → t ≤ sealed → sealed ≤ room → refusal 0 0 ≡ settled_opening key header t sealed room
+      opening_0 p q r = opening_then key header t sealed room (refusal 0 0) false false false passed_first refl (le-ltb _ _ p) (le-ltb _ _ q) (le-ltb _ _ r)

@@ -2,34 +2,23 @@
 #![tactic(auto)]
 
 ghost use Rattle.std.specs.Prelude.{◌≡◌};
-ghost use Rattle.settle.specs.Settled.{settled_common, settled_sealing, settled_opening};
+ghost use Rattle.settle.specs.Settled.{settled_by, settled_common, settled_sealing, settled_opening};
 
-use answer::StretchBytes;
-
-// The first test that holds: its number, and beside 3 the header's bad entry that it is at. Number 0 where none holds.
-#[derive(Clone, Copy)]
-pub struct Refusal {
-    pub number: u32,
-    pub at: usize,
-}
+use answer::{Refusal, StretchBytes};
 
 // Tests 1, 2 and 3, which sealing and opening share.
-fn settled(key: &[u8], header: &[u8], stretch: StretchBytes) -> Refusal
-    ensures { result ≡ settled_common key.now header.now stretch.0 }
+#[tactic(auto, using(crate::proofs::Settles::common_2))]
+fn settled(key: &[u8], header: &[u8], stretch: StretchBytes) -> Result<(), Refusal>
+    ensures { settled_by result ≡ settled_common key.now header.now stretch.0 }
 {
     if key.len() != 48 {
-        return Refusal { number: 1, at: 0 };
+        return Err(Refusal::KeyLength);
     }
     if 64 < stretch.0 {
-        return Refusal { number: 2, at: 0 };
+        return Err(Refusal::LongStretch);
     }
-    match header::read(header) {
-        Err(bad) => Refusal {
-            number: 3,
-            at: bad.0,
-        },
-        Ok(_) => Refusal { number: 0, at: 0 },
-    }
+    header::read(header)?;
+    Ok(())
 }
 
 // Tests 1 to 4 and 6 for a text of so many bytes and an output of so many. The fourth subtracts, since a sum could wrap.
@@ -39,46 +28,41 @@ pub fn settled_sealing(
     stretch: StretchBytes,
     text: usize,
     room: usize,
-) -> Refusal
-    ensures { result ≡ settled_sealing key.now header.now stretch.0 text room }
+) -> Result<(), Refusal>
+    ensures { settled_by result ≡ settled_sealing key.now header.now stretch.0 text room }
 {
-    let first = settled(key, header, stretch);
-    if first.number != 0 {
-        return first;
-    }
+    settled(key, header, stretch)?;
     let t = stretch.0 as usize;
     if 65536 - t < text {
-        return Refusal { number: 4, at: 0 };
+        return Err(Refusal::TooLong);
     }
     if room < text + t {
-        return Refusal { number: 6, at: 0 };
+        return Err(Refusal::NoRoom);
     }
-    Refusal { number: 0, at: 0 }
+    Ok(())
 }
 
 // Tests 1 to 6 for a sealed string of so many bytes and an output of so many.
+#[tactic(auto, using(crate::proofs::Settles::opening_4))]
 pub fn settled_opening(
     key: &[u8],
     header: &[u8],
     stretch: StretchBytes,
     sealed: usize,
     room: usize,
-) -> Refusal
-    ensures { result ≡ settled_opening key.now header.now stretch.0 sealed room }
+) -> Result<(), Refusal>
+    ensures { settled_by result ≡ settled_opening key.now header.now stretch.0 sealed room }
 {
-    let first = settled(key, header, stretch);
-    if first.number != 0 {
-        return first;
-    }
+    settled(key, header, stretch)?;
     let t = stretch.0 as usize;
     if 65536 < sealed {
-        return Refusal { number: 4, at: 0 };
+        return Err(Refusal::TooLong);
     }
     if sealed < t {
-        return Refusal { number: 5, at: 0 };
+        return Err(Refusal::ShortSealed);
     }
     if room < sealed {
-        return Refusal { number: 6, at: 0 };
+        return Err(Refusal::NoRoom);
     }
-    Refusal { number: 0, at: 0 }
+    Ok(())
 }
