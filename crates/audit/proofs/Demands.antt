@@ -19,8 +19,7 @@ use Rattle.laws.proofs.Tables.{no_entries}
 use Rattle.laws.proofs.Headers.{reads_as}
 use Rattle.laws.proofs.Demand3 as laws
 use Rattle.laws.proofs.Demand3.{Fixed}
-use Rattle.answer.specs.Outcomes.{outcome_of}
-use Rattle.answer.specs.Outcomes.{AnswerAt}
+use Rattle.answer.specs.Outcomes.{AnswerAt, answer_at, outcome_of}
 use Rattle.settle.specs.Settled.{Settled, refusal, settled_common, settled_sealing, settled_opening}
 use Rattle.settle.proofs.Settles.{Fits, sealing_fits, sealing_refused, sealing_done, sealing_then, opening_refused, opening_opened, opening_then, opening_fits, opening_most}
 use Rattle.record.proofs.seal.Reads as seal-reads
@@ -37,11 +36,11 @@ Opened key header t sealed out r last = outcome_of r last ≡ opening key header
 
 -- they are the contracts that the checker made from the source
 pub seal_promises : (κs : _) (a : _) (r : _) (e : _) → seal-reads.Learnt κs a r e
-    → Sealed a.0.now a.1.0.now a.1.1.0.0 a.1.1.1.0.now a.1.1.1.1.0.now r e.1.1.1.1.0.now
+    → Sealed a.0.now a.1.0.now a.1.1.0.0 a.1.1.1.0.now a.1.1.1.1.0.now (answer_at r) e.1.1.1.1.0.now
 seal_promises κs a r e p = p
 
 pub open_promises : (κs : _) (a : _) (r : _) (e : _) → open-reads.Learnt κs a r e
-    → Opened a.0.now a.1.0.now a.1.1.0.0 a.1.1.1.0.now a.1.1.1.1.0.now r e.1.1.1.1.0.now
+    → Opened a.0.now a.1.0.now a.1.1.0.0 a.1.1.1.0.now a.1.1.1.1.0.now (answer_at r) e.1.1.1.1.0.now
 open_promises κs a r e p = p
 
 module _ (key header : Bytes) (strings : List Bytes) (t : ℕ) (fixed : Fixed key header strings t) where
