@@ -11,5 +11,5 @@ use Rattle.strings.proofs.Sum.add_full.Given as goal
 abbrev pub invariant-loop-n : goal.invariant-loop-n
 invariant-loop-n l = record {
   summed : so_far (base l.k) l.self ≡ so_far (base l.k) l.initial.self ⊕ sum (l.n + 1 - 1) (full_term (base l.k) (block_of l.mask) l.t);
-  carried : l.power ≡ columns_of (two_to ((l.n + 1 - 1) / 8) (base l.k).L)
+  carried : l.power ≡ columns_of (two_to ((l.n + 1 - 1) / 8) (base l.k).L);
 }
