@@ -6,7 +6,7 @@ ghost use Rattle.paper.specs.Strings.{◌⊕◌, pad10*, number};
 
 use std::array;
 
-// a ⊕ b.
+// a ⊕ b. Columns, rows and groups have the same of their own: one line each, and the contract of each says what its words mean.
 pub fn xor(a: [u8; 16], b: [u8; 16]) -> [u8; 16]
     ensures { result ≡ a ⊕ b }
 {

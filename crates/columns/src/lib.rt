@@ -33,7 +33,7 @@ pub fn to_block(s: Columns) -> [u8; 16]
     array::from_fn(|i| s[i / 4].to_be_bytes()[i % 4])
 }
 
-// a ⊕ b.
+// a ⊕ b, as `block::xor` has it of bytes: one function for both would say of neither what its words mean.
 pub fn xor(a: Columns, b: Columns) -> Columns
     ensures { result ≡ columns_of (block_of a ⊕ block_of b) }
 {

@@ -19,7 +19,7 @@ pub fn turned(a: Row, n: u32) -> Row
     from_fn(|p| a[p].rotate_right(n))
 }
 
-// a ⊕ b.
+// a ⊕ b, as `block::xor` has it of bytes: one function for both would say of neither what its words mean.
 fn xor(a: Row, b: Row) -> Row
     ensures { result ≡ xor_row a b }
 {

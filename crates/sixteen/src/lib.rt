@@ -72,7 +72,7 @@ fn shift_and_mix(q: Planes) -> Planes
     )
 }
 
-// AddRoundKey.
+// AddRoundKey: one line, as `block::xor`, whose contract is of planes.
 fn add_key(q: Planes, k: &Planes) -> Planes
     ensures { result ≡ xor_planes q k.now }
 {

@@ -76,7 +76,8 @@ pub fn encipher(k: key::Key, delta: [u8; 16], s: &mut [u8])
     last_step(b, &m, delta, s);
 }
 
-// Lines 210 to 218 when deciphering: the `if` of line 217 comes first, and the turns count down.
+// Lines 210 to 218 when deciphering: the `if` of line 217 comes first, and the turns count down. With another order of steps and another
+// definition, `decipher_tiny`, one function for both would be no plainer.
 pub fn decipher(k: key::Key, delta: [u8; 16], s: &mut [u8])
     requires { (1 ≤ length s.old) × (length s.old ≤ 31) }
     ensures { s.new ≡ decipher_tiny (E (blocks k)) delta s.old }

@@ -45,7 +45,7 @@ pub fn turns_up(keys: &[Columns; 5], bits: Columns, n: usize, s: Halves) -> Halv
     t
 }
 
-// Line 215 when deciphering: the turns .., 1, 0.
+// Line 215 when deciphering: the turns .., 1, 0. A function beside `turns_up`, since it equals another definition: `block_turns_down`.
 pub fn turns_down(keys: &[Columns; 5], bits: Columns, n: usize, s: Halves) -> Halves
     ensures { blocks_of result ≡ block_turns_down (keys_of keys.now) (block_of bits) (tiny_rounds (8 * n)) (blocks_of s) }
 {
