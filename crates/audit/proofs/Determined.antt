@@ -100,6 +100,8 @@ use Rattle.groups.proofs.under2.Reads as groups-under2
 use Rattle.pass.proofs.added.Reads as pass-added
 use Rattle.pass.proofs.put_two.Reads as pass-put-two
 use Rattle.pass.proofs.all_pairs.Reads as pass-all-pairs
+use Rattle.answer.proofs.Refusal.number.Reads as answer-number
+use Rattle.answer.proofs.Refusal.place.Reads as answer-place
 use Rattle.answer.proofs.StretchBytes.bits.Reads as answer-bits
 use Rattle.header.proofs.entry.Reads as header-entry
 use Rattle.header.proofs.count.Reads as header-count
@@ -464,6 +466,12 @@ pub groups_keys_determined : (κs : _) (a : _) (z w : _) (e f : _) → groups-ke
 groups_keys_determined κs a z w e f p q = one p.1 q.1
 
 -- ---- What a door answers by: `answer`
+
+pub answer_number_determined : (κs : _) (a : _) (z w : _) (e f : _) → answer-number.Learnt κs a z e → answer-number.Learnt κs a w f → z ≡ w
+answer_number_determined κs a z w e f p q = one p q
+
+pub answer_place_determined : (κs : _) (a : _) (z w : _) (e f : _) → answer-place.Learnt κs a z e → answer-place.Learnt κs a w f → z ≡ w
+answer_place_determined κs a z w e f p q = one p q
 
 pub answer_bits_determined : (κs : _) (a : _) (z w : _) (e f : _) → answer-bits.Learnt κs a z e → answer-bits.Learnt κs a w f → z ≡ w
 answer_bits_determined κs a z w e f p q = λ i. record { 0 = one p q i }

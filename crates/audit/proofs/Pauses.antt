@@ -26,6 +26,7 @@ use Rattle.pause.proofs.read_field.Reads as pause-read-field
 use Rattle.mean.proofs.with_mean.Reads as mean-with-mean
 use Rattle.line.proofs.line_length.Reads as line-line-length
 use Rattle.line.proofs.put_line.Reads as line-put-line
+use Rattle.mean.proofs.Report.figures.Reads as mean-figures
 use Rattle.mean.proofs.put_figures.Reads as mean-put-figures
 use Rattle.pause_sum.proofs.added.Reads as pause-added
 use Rattle.ledger.proofs.report.Reads as ledger-report
@@ -69,6 +70,9 @@ line_line_length_determined κs a z w e f p q = p ∙ sym q
 
 pub line_put_line_determined : (κs : _) (a : _) (z w : _) (e f : _) → line-put-line.Learnt κs a z e → line-put-line.Learnt κs a w f → e.1.0.now ≡ f.1.0.now
 line_put_line_determined κs a z w e f p q = p ∙ sym q
+
+pub mean_figures_determined : (κs : _) (a : _) (z w : _) (e f : _) → mean-figures.Learnt κs a z e → mean-figures.Learnt κs a w f → z ≡ w
+mean_figures_determined κs a z w e f p q = p ∙ sym q
 
 pub mean_put_figures_determined : (κs : _) (a : _) (z w : _) (e f : _) → mean-put-figures.Learnt κs a z e → mean-put-figures.Learnt κs a w f → e.1.0.now ≡ f.1.0.now
 mean_put_figures_determined κs a z w e f p q = p ∙ sym q
