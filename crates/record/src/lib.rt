@@ -25,6 +25,16 @@ pub fn seal(
     Ok(length)
 }
 
+// The answer to a string that does not open. A call, and not a value: of two values the compiler takes one by whether the check held, with no
+// branch, and whoever looks up the refusal's number then reads at an address that depends on a secret (`rust/tests/secrets.rs`).
+#[cold]
+#[inline(never)]
+fn does_not_open() -> Result<usize, Refusal>
+    ensures { result ≡ Err Refusal.DoesNotOpen }
+{
+    Err(Refusal::DoesNotOpen)
+}
+
 // Opening, the numbered form: the length of the text. Nothing is written before answers 1 to 6 are settled.
 pub fn open(
     key: &[u8],
@@ -43,7 +53,7 @@ pub fn open(
     if cipher::decrypt(k, delta, t, sealed, &mut out[..n]) {
         Ok(n - t)
     } else {
-        Err(Refusal::DoesNotOpen)
+        does_not_open()
     }
 }
 

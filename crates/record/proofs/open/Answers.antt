@@ -56,5 +56,6 @@ pub returns-else-decrypt : goal.returns-else-decrypt
 returns-else-decrypt c =
     let a = c.args in
     let k = c.key_of-k in
-    opens_by a.key.now a.header.now a.out.now c.decrypt.new.out a.stretch.0 (blocks k.result) k.ensures.0 c.bits.result.0 c.bits.ensures c.delta-delta.result c.delta-delta.ensures
-    a.sealed.now (refusal 0 0) c.in_ok-settled_opening.ensures refl c.decrypt.result c.decrypt.ensures.0 c.decrypt.ensures.1 c.decrypt.auto.out false c.if-decrypt.false
+    rw c.does_not_open.ensures
+    (opens_by a.key.now a.header.now a.out.now c.decrypt.new.out a.stretch.0 (blocks k.result) k.ensures.0 c.bits.result.0 c.bits.ensures c.delta-delta.result c.delta-delta.ensures
+    a.sealed.now (refusal 0 0) c.in_ok-settled_opening.ensures refl c.decrypt.result c.decrypt.ensures.0 c.decrypt.ensures.1 c.decrypt.auto.out false c.if-decrypt.false)
