@@ -110,7 +110,7 @@ pub fn aez_log_header(
     ensures { (result ≡ (building_log_header nonce.now host.now collector.now locale.now out.old).number) × (out.new ≡ (building_log_header nonce.now host.now collector.now locale.now out.old).output) }
 {
     let answer = builder::log_header(nonce, host, collector, locale, out);
-    answer.number
+    number_of(answer)
 }
 
 // A day file of headers and sealed strings, each joined, with a list of their lengths, and of the records' header numbers and stretches.

@@ -54,6 +54,9 @@ size_in (Err r) = 0
 abbrev pub outcome : Answer → Bytes → Outcome
 outcome r out = record { number = r.number; size = r.length; output = out }
 
+abbrev pub outcome_in : Result ℕ Refusal → Bytes → Outcome
+outcome_in r out = record { number = number_in r; size = size_in r; output = out }
+
 -- an answer in numbers, and beside 3 the number of the header's bad entry
 pub record AnswerAt : Type 0 where
   pub number : ℕ

@@ -18,12 +18,14 @@ use Rattle.paper.specs.Strings.{Bytes, tab}
 use Rattle.paper.specs.Section7.{◌·◌}
 use Rattle.paper.specs.Figure6 as figure6
 use Rattle.paper.specs.Document01.{Outcome, OutcomeAt}
-use Rattle.answer.specs.Outcomes.{outcome, outcome_at}
+use Rattle.answer.specs.Outcomes.{number_in, place_in, outcome, outcome_in, outcome_at}
 use Rattle.answer.specs.declared.Answer.{Answer}
 use Rattle.answer.specs.declared.Refusal.{Refusal}
 use Rattle.answer.proofs.Refusals.{one_answer, one_test}
 use Rattle.settle.specs.Settled.{Settled, settled_by}
-use Rattle.std.specs.Prelude.{Result}
+use Rattle.answer.specs.declared.Refusal.TheVariants.{KeyLength, LongStretch, BadHeader, TooLong, ShortSealed, NoRoom, DoesNotOpen, LongItem, NoRecord, NoLocale, NoPause, BadList}
+use Rattle.audit.proofs.Numbers.{building_no_3}
+use Rattle.std.specs.Prelude.{Result, Ok, Err}
 use Rattle.paper.specs.DayFile.{before, read_records, Listing}
 use Rattle.day_steps.specs.declared.Entry.{Entry}
 use Rattle.day_steps.specs.Walks.{record_of, RecordStep, HeadersWalk}
@@ -179,6 +181,30 @@ one_outcome : (z w : Answer) (X Y : Bytes) (o : Outcome) → outcome z X ≡ o �
 one_outcome z w X Y o p q =
     let e : outcome z X ≡ outcome w Y = one p q in
     (ap (λ (o : Outcome). record { number = o.number; length = o.size }) e, ap (λ (o : Outcome). o.output) e)
+
+-- beside another number than 3 the place is 0
+no_place : (z : Result ℕ Refusal) → (number_in z ≡ 3 → ⊥) → place_in z ≡ 0
+no_place (Ok n) f = refl
+no_place (Err KeyLength) f = refl
+no_place (Err LongStretch) f = refl
+no_place (Err (BadHeader bad)) f = absurd (f refl)
+no_place (Err TooLong) f = refl
+no_place (Err ShortSealed) f = refl
+no_place (Err NoRoom) f = refl
+no_place (Err DoesNotOpen) f = refl
+no_place (Err LongItem) f = refl
+no_place (Err NoRecord) f = refl
+no_place (Err NoLocale) f = refl
+no_place (Err NoPause) f = refl
+no_place (Err BadList) f = refl
+
+-- the same of a door whose contract has no place, since it answers no 3
+one_outcome_in : (z w : Result ℕ Refusal) (X Y : Bytes) (o : Outcome) → (o.number ≡ 3 → ⊥) → outcome_in z X ≡ o → outcome_in w Y ≡ o → (z ≡ w) × (X ≡ Y)
+one_outcome_in z w X Y o f p q =
+    let e : outcome_in z X ≡ outcome_in w Y = one p q in
+    let zero = no_place z (λ t. f (sym (ap (λ (o : Outcome). o.number) p) ∙ t)) in
+    let other = no_place w (λ t. f (sym (ap (λ (o : Outcome). o.number) q) ∙ t)) in
+    (one_answer z w (ap (λ (o : Outcome). o.number) e) (ap (λ (o : Outcome). o.size) e) (one zero other), ap (λ (o : Outcome). o.output) e)
 
 one_outcome_at : (z w : Result ℕ Refusal) (X Y : Bytes) (o : OutcomeAt) → outcome_at z X ≡ o → outcome_at w Y ≡ o → (z ≡ w) × (X ≡ Y)
 one_outcome_at z w X Y o p q =
@@ -497,7 +523,8 @@ pub builder_put_determined : (κs : _) (a : _) (z w : _) (e f : _) → builder-p
 builder_put_determined κs a z w e f p q = (one p.0 q.0, one p.1 q.1)
 
 pub builder_log_header_determined : (κs : _) (a : _) (z w : _) (e f : _) → builder-log-header.Learnt κs a z e → builder-log-header.Learnt κs a w f → (z ≡ w) × (e.1.1.1.1.0.now ≡ f.1.1.1.1.0.now)
-builder_log_header_determined κs a z w e f p q = one_outcome z w e.1.1.1.1.0.now f.1.1.1.1.0.now _ p q
+builder_log_header_determined κs a z w e f p q =
+    one_outcome_in z w e.1.1.1.1.0.now f.1.1.1.1.0.now _ (building_no_3 a.0.now a.1.0.now a.1.1.0.now a.1.1.1.0.now a.1.1.1.1.0.now) p q
 
 -- ---- The strings of a tweak: `strings`
 

@@ -1,27 +1,26 @@
 -- THE LOG HEADER (request E2). What a call of the builder wrote reads, with exactly its four items, and two calls that wrote equal headers
 -- had equal items: nonce, host, collector and locale are bound each by itself.
-use mathlib.Core.Bool.{Bool, true, false}
 use mathlib.Core.List.{[], ◌∷◌}
 use mathlib.Core.Option.{some}
 use mathlib.Core.Path.{◌≡◌, refl, ap, sym, ◌∙◌}
 use Prim.Native.Nat.{ℕ, ◌≤◌}
-use borrow.Author.Tests.{eqb-true, eqb-false}
-use lib.Dec.{eqb}
 use lib.ListN.{length, take, drop}
 use lib.Seq.{take-append_seam}
 use Rattle.paper.specs.Strings.{Bytes, Below}
 use Rattle.paper.specs.Document01.{Outcome, done, read_header, log_header, building_log_header}
 use Rattle.laws.proofs.Headers.{Fits, log_header_reads, same_items}
-use Rattle.answer.specs.Outcomes.{outcome}
-use Rattle.answer.specs.declared.Answer.{Answer}
+use Rattle.std.specs.Prelude.{Result, Ok, Err}
+use Rattle.answer.specs.Outcomes.{number_in, size_in, outcome_in}
+use Rattle.answer.specs.declared.Refusal.{Refusal}
+use Rattle.answer.proofs.Refusals as refusals
 use Rattle.builder.specs.Building.{settled_as}
 use Rattle.builder.proofs.Items.{items_fit, builds_0}
 use Rattle.builder.proofs.Answers.{refuses, accepts}
 use Rattle.builder.proofs.log_header.Reads as log-header-contract
 
 -- a call that was lent these items answered r and left these bytes in the output
-abbrev pub Built : (nonce host collector locale out : Bytes) (r : Answer) (last : Bytes) → Type 0
-Built nonce host collector locale out r last = outcome r last ≡ building_log_header nonce host collector locale out
+abbrev pub Built : (nonce host collector locale out : Bytes) (r : Result ℕ Refusal) (last : Bytes) → Type 0
+Built nonce host collector locale out r last = outcome_in r last ≡ building_log_header nonce host collector locale out
 
 -- that is the contract that the checker made from the source
 pub log_header_promises : (κs : _) (a : _) (r : _) (e : _) → log-header-contract.Learnt κs a r e
@@ -36,10 +35,10 @@ pub record Items (nonce host collector locale : Bytes) : Type 0 where
   pub locale_bytes : Below 256 locale
 
 -- what stands first in the output of a call that answered r
-abbrev pub written : Answer → Bytes → Bytes
-written r last = take r.length last
+abbrev pub written : Result ℕ Refusal → Bytes → Bytes
+written r last = take (size_in r) last
 
-module _ (nonce host collector locale out : Bytes) (r : Answer) (last : Bytes) (call : Built nonce host collector locale out r last) (done-0 : r.number ≡ 0) where
+module _ (nonce host collector locale out : Bytes) (r : Result ℕ Refusal) (last : Bytes) (call : Built nonce host collector locale out r last) (done-0 : number_in r ≡ 0) where
   abbrev header : Bytes
   header = log_header nonce host collector locale
 
@@ -49,18 +48,17 @@ module _ (nonce host collector locale out : Bytes) (r : Answer) (last : Bytes) (
     header_first : written r last ≡ header
 
   wrote : Wrote
-  wrote = go (settled_as nonce host collector locale (length out)) refl (eqb (settled_as nonce host collector locale (length out)) 0) refl
+  wrote = go (settled_as nonce host collector locale (length out)) refl
     where
-      go : (n : ℕ) → n ≡ settled_as nonce host collector locale (length out) → (b : Bool) → eqb n 0 ≡ b → Wrote
-      go n s true e =
-          let fits = accepts nonce host collector locale n (length out) s (eqb-true n 0 e) in
-          let is : outcome r last ≡ done (length header) header out = call ∙ builds_0 nonce host collector locale fits.0 out fits.1 in
+      go : (z : Result ℕ Refusal) → z ≡ settled_as nonce host collector locale (length out) → Wrote
+      go (Ok n) s =
+          let fits = accepts nonce host collector locale n (length out) s in
+          let is : outcome_in r last ≡ done (length header) header out = call ∙ builds_0 nonce host collector locale fits.0 out fits.1 in
           record {
             short = items_fit nonce host collector locale fits.0;
             header_first = (λ i. take (is i).size (is i).output) ∙ take-append_seam header (drop (length header) out);
           }
-      go n s false e =
-          absurd (eqb-false n 0 e (sym (ap (λ (o : Outcome). o.number) (call ∙ refuses nonce host collector locale n out s (eqb-false n 0 e))) ∙ done-0))
+      go (Err k) s = absurd (refusals.refuses k (ap (λ (o : Outcome). o.number) (refuses nonce host collector locale k out s ∙ sym call) ∙ done-0))
 
   module _ (items : Items nonce host collector locale) where
     nonce_fits : Fits nonce
@@ -81,10 +79,10 @@ module _ (nonce host collector locale out : Bytes) (r : Answer) (last : Bytes) (
         ap read_header wrote.header_first ∙ log_header_reads nonce host collector locale nonce_fits host_fits collector_fits locale_fits
 
 -- two calls that answered 0 and wrote equal headers had equal items
-pub equal_headers : (nonce host collector locale out : Bytes) (r : Answer) (last : Bytes) (call : Built nonce host collector locale out r last)
-    → (zero : r.number ≡ 0) → (items : Items nonce host collector locale)
-    → (nonce' host' collector' locale' out' : Bytes) (r' : Answer) (last' : Bytes) (call' : Built nonce' host' collector' locale' out' r' last')
-    → (zero' : r'.number ≡ 0) → (items' : Items nonce' host' collector' locale')
+pub equal_headers : (nonce host collector locale out : Bytes) (r : Result ℕ Refusal) (last : Bytes) (call : Built nonce host collector locale out r last)
+    → (zero : number_in r ≡ 0) → (items : Items nonce host collector locale)
+    → (nonce' host' collector' locale' out' : Bytes) (r' : Result ℕ Refusal) (last' : Bytes) (call' : Built nonce' host' collector' locale' out' r' last')
+    → (zero' : number_in r' ≡ 0) → (items' : Items nonce' host' collector' locale')
     → written r last ≡ written r' last'
     → (nonce ≡ nonce') × (host ≡ host') × (collector ≡ collector') × (locale ≡ locale')
 equal_headers a b c d o r l p z i a' b' c' d' o' r' l' p' z' i' e =

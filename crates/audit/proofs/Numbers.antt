@@ -1,8 +1,8 @@
 -- THE NUMBERS. What each function of `aez`, which `aez_c` exports with the same clauses, returns is one of document 01's numbers for that call, and no other number.
-use mathlib.Core.Bool.{Bool, true, false, ◌||◌, not}
+use mathlib.Core.Bool.{Bool, true, false, true≢false, ◌||◌, not}
 use mathlib.Core.List.{List, [], ◌∷◌}
 use mathlib.Core.Option.{Option, none, some}
-use mathlib.Core.Path.{◌≡◌, refl, ap, ◌∙◌}
+use mathlib.Core.Path.{◌≡◌, refl, ap, sym, ◌∙◌}
 use Prim.Native.Nat.{ℕ}
 use lib.Dec.{eqb, ltb}
 use lib.ListN.{length, take, get_elem?}
@@ -104,6 +104,10 @@ building_gives nonce host collector locale out =
     go true b = refl
     go false true = refl
     go false false = refl
+
+-- 3 is none of these
+pub building_no_3 : (nonce host collector locale out : Bytes) → (building_log_header nonce host collector locale out).number ≡ 3 → ⊥
+building_no_3 nonce host collector locale out e = true≢false (sym (building_gives nonce host collector locale out) ∙ ap (among of_building) e)
 
 pub log_header_number : (κs : _) (a : _) (n : _) (e : _) → aez-log-header.Learnt κs a n e → among of_building n ≡ true
 log_header_number κs a n e p =

@@ -1,15 +1,17 @@
 -- What is written of the log header's items, part by part.
 use mathlib.Core.Bool.{Bool, true, false, ◌||◌, true≢false}
 use mathlib.Core.List.{[], ◌∷◌, ◌++◌, append-nil}
-use mathlib.Core.Path.{◌≡◌, refl, ap, ◌∙◌}
-use Prim.Native.Nat.{◌+◌, ◌/◌, ◌%◌, ◌≤◌, ◌<◌}
+use mathlib.Core.Path.{◌≡◌, refl, ap, sym, ◌∙◌}
+use Prim.Native.Nat.{ℕ, ◌+◌, ◌/◌, ◌%◌, ◌≤◌, ◌<◌}
 use native.Mathlib.Omega.{arith}
 use borrow.Author.Tests.{ltb-false, lt-ltb, le-ltb}
 use lib.Dec.{ltb}
-use lib.ListN.{length, length-append}
+use lib.ListN.{length, set, length-append}
 use Rattle.paper.specs.Strings.{Bytes, digits}
 use Rattle.paper.specs.Document01.{write_strings, write_header, log_items, log_header, refused, done, building_log_header}
+use Rattle.laws.specs.Placing.{placed}
 use Rattle.laws.proofs.Headers.{write_append}
+use Rattle.laws.proofs.Placed.{placed_then, begun, begun_more}
 use Rattle.builder.specs.Building.{too_long}
 
 -- ---- Strings
@@ -21,6 +23,16 @@ write_one s = append-nil (digits 256 2 (length s) ++ s)
 
 pub one_long : (s : Bytes) → length (write_strings (s ∷ [])) ≡ 2 + length s
 one_long s = ap length (write_one s) ∙ omega arith
+
+-- the two bytes of its length, and a string after them, are what is written of it
+pub string_put : (s out behind last : Bytes) (at : ℕ) → at + 2 + length s ≤ length out → behind ≡ placed at (digits 256 2 (length s)) out
+    → last ≡ placed (at + 2) s behind → last ≡ placed at (write_strings (s ∷ [])) out
+unfolding digits
+string_put s out behind last at p two e =
+    e
+    ∙ ap (placed (at + 2) s) two
+    ∙ placed_then at (digits 256 2 (length s)) s out (omega arith)
+    ∙ ap (λ (w : Bytes). placed at w out) (sym (write_one s))
 
 -- ---- The log header
 
@@ -43,6 +55,27 @@ log_long nonce host collector locale =
     let l = write_strings (locale ∷ []) in
     ap length (log_parts nonce host collector locale)
     ∙ omega (arith, length-append (n ++ h ++ c) l, length-append (n ++ h) c, length-append n h)
+
+module _ (nonce host collector locale out : Bytes) (fits : length (log_header nonce host collector locale) ≤ length out) where
+  -- the count in front and four strings, each at the place after the one before it, are the header
+  pub strings_put : (o1 o2 o3 o4 : Bytes) (p1 p2 p3 : ℕ)
+      → o1 ≡ placed 1 (write_strings (nonce ∷ [])) (set out 0 4) → p1 ≡ 1 + length (write_strings (nonce ∷ []))
+      → o2 ≡ placed p1 (write_strings (host ∷ [])) o1 → p2 ≡ p1 + length (write_strings (host ∷ []))
+      → o3 ≡ placed p2 (write_strings (collector ∷ [])) o2 → p3 ≡ p2 + length (write_strings (collector ∷ []))
+      → o4 ≡ placed p3 (write_strings (locale ∷ [])) o3
+      → o4 ≡ placed 0 (log_header nonce host collector locale) out
+  strings_put o1 o2 o3 o4 p1 p2 p3 a1 b1 a2 b2 a3 b3 a4 =
+      let n = write_strings (nonce ∷ []) in
+      let h = write_strings (host ∷ []) in
+      let c = write_strings (collector ∷ []) in
+      let l = write_strings (locale ∷ []) in
+      let long = log_long nonce host collector locale in
+      let first = begun 4 out (omega (arith, long)) in
+      let second = begun_more n o1 p1 first a1 b1 (omega (arith, long)) in
+      let third = begun_more h o2 p2 second a2 b2 (omega (arith, long)) in
+      let fourth = begun_more c o3 p3 third a3 b3 (omega (arith, long)) in
+      let last = begun_more l o4 (p3 + length l) fourth a4 refl (omega (arith, long)) in
+      last.there ∙ ap (λ (w : Bytes). placed 0 w out) (sym (log_parts nonce host collector locale))
 
 -- ---- The answers
 

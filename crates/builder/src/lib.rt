@@ -3,29 +3,17 @@
 
 ghost use Rattle.std.specs.Prelude.{[], ◌∷◌, ◌≡◌, ◌+◌, ◌≤◌, length};
 ghost use Rattle.paper.specs.Document01.{write_strings, log_header, building_log_header};
-ghost use Rattle.answer.specs.Outcomes.{outcome};
+ghost use Rattle.answer.specs.Outcomes.{outcome_in};
 ghost use Rattle.laws.specs.Placing.{placed};
 ghost use Rattle.builder.specs.Building.{too_long, settled_as};
 
-use answer::Answer;
+use answer::Refusal;
 
 // Whether an item is longer than a string of a header may be.
 fn too_long(nonce: &[u8], host: &[u8], collector: &[u8], locale: &[u8]) -> bool
     ensures { result ≡ too_long nonce.now host.now collector.now locale.now }
 {
-    if 1024 < nonce.len() {
-        return true;
-    }
-    if 1024 < host.len() {
-        return true;
-    }
-    if 1024 < collector.len() {
-        return true;
-    }
-    if 1024 < locale.len() {
-        return true;
-    }
-    false
+    1024 < nonce.len() || 1024 < host.len() || 1024 < collector.len() || 1024 < locale.len()
 }
 
 // How many bytes a string takes with its length in front.
@@ -67,34 +55,37 @@ fn put_log(nonce: &[u8], host: &[u8], collector: &[u8], locale: &[u8], out: &mut
     put(out, fourth, locale);
 }
 
-// What the builder answers for a room of so many bytes: 8 for an item that is too long, then 6 for a room that is too short, else 0.
-fn settled(nonce: &[u8], host: &[u8], collector: &[u8], locale: &[u8], bytes: usize) -> u32
+// The log header's length, or what the builder refuses for a room of so many bytes: an item that is too long, then a room that is too short.
+fn settled(
+    nonce: &[u8],
+    host: &[u8],
+    collector: &[u8],
+    locale: &[u8],
+    bytes: usize,
+) -> Result<usize, Refusal>
     ensures { result ≡ settled_as nonce.now host.now collector.now locale.now bytes }
 {
     if too_long(nonce, host, collector, locale) {
-        return 8;
+        return Err(Refusal::LongItem);
     }
-    if bytes < log_length(nonce, host, collector, locale) {
-        return 6;
+    let size = log_length(nonce, host, collector, locale);
+    if bytes < size {
+        return Err(Refusal::NoRoom);
     }
-    0
+    Ok(size)
 }
 
-// The log header. Nothing is written before the answer is settled.
+// The log header: its length. Nothing is written before the answer is settled.
 pub fn log_header(
     nonce: &[u8],
     host: &[u8],
     collector: &[u8],
     locale: &[u8],
     out: &mut [u8],
-) -> Answer
-    ensures { outcome result out.new ≡ building_log_header nonce.now host.now collector.now locale.now out.old }
+) -> Result<usize, Refusal>
+    ensures { outcome_in result out.new ≡ building_log_header nonce.now host.now collector.now locale.now out.old }
 {
-    let number = settled(nonce, host, collector, locale, out.len());
-    if number != 0 {
-        return Answer { number, length: 0 };
-    }
+    let size = settled(nonce, host, collector, locale, out.len())?;
     put_log(nonce, host, collector, locale, out);
-    let length = log_length(nonce, host, collector, locale);
-    Answer { number, length }
+    Ok(size)
 }

@@ -152,7 +152,7 @@ fn call(v: First, s: &[u8], out: &mut [u8]) -> Answer {
     match v.which {
         b's' => in_numbers(record::seal(a, b, StretchBytes(v.stretch), c, out)),
         b'o' => in_numbers(record::open(a, b, StretchBytes(v.stretch), c, out)),
-        _ => builder::log_header(a, b, c, part(s, 196800, v.d), out),
+        _ => in_numbers(builder::log_header(a, b, c, part(s, 196800, v.d), out)),
     }
 }
 
