@@ -7,7 +7,7 @@ ghost use Rattle.paper.specs.Document01.{reading, sealing, opening, told, buildi
 ghost use Rattle.paper.specs.DayFile.{counting, opening_record, listing, writing};
 ghost use Rattle.paper.specs.Pause.{pausing};
 ghost use Rattle.paper.specs.Ledger.{reporting, reporting_figures};
-ghost use Rattle.answer.specs.Outcomes.{number_in, place_in};
+ghost use Rattle.answer.specs.Outcomes.{number_in, size_in, place_in};
 ghost use Rattle.paper.specs.DayEdits.{clearing, appending};
 
 use answer::{Refusal, StretchBytes};
@@ -20,6 +20,16 @@ fn number_of(answer: Result<usize, Refusal>) -> u32
     match answer {
         Ok(_) => 0,
         Err(refusal) => refusal.number(),
+    }
+}
+
+// The length of an answer, and 0 beside a refusal.
+fn length_of(answer: Result<usize, Refusal>) -> u64
+    ensures { result ≡ size_in answer }
+{
+    match answer {
+        Ok(length) => length as u64,
+        Err(_) => 0,
     }
 }
 
@@ -166,9 +176,16 @@ pub fn aez_day_list(file: &[u8], places: &mut [u64], headers: &mut u64, records:
 pub fn aez_pause(header: &[u8], text: &[u8], microseconds: &mut u64) -> u32
     ensures { (result ≡ (pausing header.now text.now).number) × (microseconds.new ≡ (pausing header.now text.now).microseconds) }
 {
-    let field = pause::read_field(header, text);
-    *microseconds = field.microseconds;
-    field.number
+    match pause::read_field(header, text) {
+        Ok(n) => {
+            *microseconds = n;
+            0
+        }
+        Err(refusal) => {
+            *microseconds = 0;
+            refusal.number()
+        }
+    }
 }
 
 // The report of a day file, as a line.
@@ -176,8 +193,8 @@ pub fn aez_report(key: &[u8], file: &[u8], out: &mut [u8], size: &mut u64) -> u3
     ensures { (result ≡ (reporting key.now file.now out.old).number) × (size.new ≡ (reporting key.now file.now out.old).size) × (out.new ≡ (reporting key.now file.now out.old).output) }
 {
     let answer = ledger::report(key, file, out);
-    *size = answer.length as u64;
-    answer.number
+    *size = length_of(answer);
+    number_of(answer)
 }
 
 // The report of a day file, as six numbers: read, refused, sum, longest, and the mean's fraction.
@@ -185,7 +202,7 @@ pub fn aez_report_figures(key: &[u8], file: &[u8], figures: &mut [u64]) -> u32
     ensures { (result ≡ (reporting_figures key.now file.now figures.old).number) × (figures.new ≡ (reporting_figures key.now file.now figures.old).output) }
 {
     let answer = ledger::figures(key, file, figures);
-    answer.number
+    number_of(answer)
 }
 
 // Clearing records out of a day file that stands first in a buffer.

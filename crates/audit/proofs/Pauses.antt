@@ -8,15 +8,16 @@ use Prim.Native.Nat.{ℕ}
 use native.Mathlib.Omega.{arith}
 use lib.Dec.{eqb, ltb}
 use lib.ListN.{length}
-use Rattle.std.specs.Prelude.{if◌then◌else◌}
+use Rattle.std.specs.Prelude.{Result, if◌then◌else◌}
 use Rattle.paper.specs.Strings.{Bytes}
 use Rattle.paper.specs.Document01.{Outcome, refused, done, read_header}
 use Rattle.paper.specs.DayFile.{Day, read_day}
 use Rattle.paper.specs.Pause.{Pause, comma, point, header_mark, read_pause, pause_read, pause_under, pause_with, pausing}
 use Rattle.paper.specs.Ledger.{Report, pauses_of, report_of, line_of, figures_of, report_in, reporting, reporting_figures}
 use Rattle.laws.proofs.PauseParts.{comma_mark, point_mark, never_two_values}
-use Rattle.answer.specs.Outcomes.{outcome}
-use Rattle.answer.specs.declared.Answer.{Answer}
+use Rattle.answer.specs.Outcomes.{number_in, size_in, outcome_in}
+use Rattle.answer.specs.declared.Refusal.{Refusal}
+use Rattle.pause.specs.Fields.{field_of}
 use Rattle.audit.proofs.Numbers.{among}
 use Rattle.pause_unit.proofs.is_rest.Reads as pause-is-rest
 use Rattle.pause_unit.proofs.with_unit.Reads as pause-with-unit
@@ -49,8 +50,8 @@ pause_header_mark_determined κs a z w e f p q = p ∙ sym q
 pub pause_read_text_determined : (κs : _) (a : _) (z w : _) (e f : _) → pause-read-text.Learnt κs a z e → pause-read-text.Learnt κs a w f → z ≡ w
 pause_read_text_determined κs a z w e f p q = p ∙ sym q
 
-pub pause_read_field_determined : (κs : _) (a : _) (z w : _) (e f : _) → pause-read-field.Learnt κs a z e → pause-read-field.Learnt κs a w f → z ≡ w
-pause_read_field_determined κs a z w e f p q = ap (λ (r : Pause). record { number = r.number; microseconds = r.microseconds }) (p ∙ sym q)
+pub pause_read_field_determined : (κs : _) (a : _) (z w : _) (e f : _) → pause-read-field.Learnt κs a z e → pause-read-field.Learnt κs a w f → field_of z ≡ field_of w
+pause_read_field_determined κs a z w e f p q = p ∙ sym q
 
 pub exported_pause_determined : (κs : _) (a : _) (z w : _) (e f : _) → exported-pause.Learnt κs a z e → exported-pause.Learnt κs a w f
     → (z ≡ w) × (e.1.1.0.now ≡ f.1.1.0.now)
@@ -77,15 +78,16 @@ mean_figures_determined κs a z w e f p q = p ∙ sym q
 pub mean_put_figures_determined : (κs : _) (a : _) (z w : _) (e f : _) → mean-put-figures.Learnt κs a z e → mean-put-figures.Learnt κs a w f → e.1.0.now ≡ f.1.0.now
 mean_put_figures_determined κs a z w e f p q = p ∙ sym q
 
-one_outcome : (z w : Answer) (X Y : List ℕ) → outcome z X ≡ outcome w Y → (z ≡ w) × (X ≡ Y)
-one_outcome z w X Y e = (ap (λ (o : Outcome). record { number = o.number; length = o.size }) e, ap (λ (o : Outcome). o.output) e)
+-- a contract that has no place tells an answer's number and its length
+one_outcome : (z w : Result ℕ Refusal) (X Y : List ℕ) → outcome_in z X ≡ outcome_in w Y → (number_in z ≡ number_in w) × (size_in z ≡ size_in w) × (X ≡ Y)
+one_outcome z w X Y e = (ap (λ (o : Outcome). o.number) e, ap (λ (o : Outcome). o.size) e, ap (λ (o : Outcome). o.output) e)
 
 pub ledger_report_determined : (κs : _) (a : _) (z w : _) (e f : _) → ledger-report.Learnt κs a z e → ledger-report.Learnt κs a w f
-    → (z ≡ w) × (e.1.1.0.now ≡ f.1.1.0.now)
+    → (number_in z ≡ number_in w) × (size_in z ≡ size_in w) × (e.1.1.0.now ≡ f.1.1.0.now)
 ledger_report_determined κs a z w e f p q = one_outcome z w e.1.1.0.now f.1.1.0.now (p ∙ sym q)
 
 pub ledger_figures_determined : (κs : _) (a : _) (z w : _) (e f : _) → ledger-figures.Learnt κs a z e → ledger-figures.Learnt κs a w f
-    → (z ≡ w) × (e.1.1.0.now ≡ f.1.1.0.now)
+    → (number_in z ≡ number_in w) × (size_in z ≡ size_in w) × (e.1.1.0.now ≡ f.1.1.0.now)
 ledger_figures_determined κs a z w e f p q = one_outcome z w e.1.1.0.now f.1.1.0.now (p ∙ sym q)
 
 pub exported_report_determined : (κs : _) (a : _) (z w : _) (e f : _) → exported-report.Learnt κs a z e → exported-report.Learnt κs a w f

@@ -1,22 +1,22 @@
 -- A record's pause as it was taken: by the mark of its header and by the text that it opened to; and the pause of record k of a file.
-use mathlib.Core.Bool.{true}
+use mathlib.Core.Bool.{Bool, true}
 use mathlib.Core.List.{List, [], ◌∷◌, map}
 use mathlib.Core.Option.{Option, none, some}
 use mathlib.Core.Path.{◌≡◌, refl, ap, sym, ◌∙◌}
 use Prim.Native.Nat.{ℕ, zero, suc, ◌-◌, ◌≤◌}
 use native.Mathlib.Omega.{arith}
-use borrow.Author.Tests.{eq-eqb}
+use borrow.Author.Tests.{eq-eqb, ne_eqb}
 use lib.ListN.{length, get_or, take, drop, replicate, get_elem?}
 use Rattle.paper.specs.Strings.{Bytes, Below}
-use Rattle.paper.specs.Document01.{OutcomeAt, read_header, opening}
+use Rattle.paper.specs.Document01.{OutcomeAt, reading, opening}
 use Rattle.paper.specs.DayFile.{Record, Day, read_day}
 use Rattle.paper.specs.Pause.{Pause, no_pause, read_pause, pause_read, pausing}
 use Rattle.paper.specs.Ledger.{opened_pause, pause_of, pauses_of}
-use Rattle.answer.specs.Outcomes.{AnswerAt, outcome_of}
-use Rattle.std.specs.Prelude.{None, Some, Result, Ok, Err}
+use Rattle.answer.specs.Outcomes.{AnswerAt, outcome_of, number_of}
+use Rattle.std.specs.Prelude.{if◌then◌else◌, None, Some, Result, Ok, Err}
 use Rattle.std.specs.Result.{result_ok}
-use Rattle.pause_mark.specs.declared.NoMark.{NoMark}
-use Rattle.pause_mark.specs.declared.NoMark.TheVariants.{Header, Locale}
+use Rattle.answer.specs.declared.Refusal.{Refusal}
+use Rattle.answer.proofs.Refusals.{refuses}
 use Rattle.pause_unit.specs.Answers.{read_as}
 use Rattle.pause_mark.specs.Marks.{mark_as}
 use Rattle.pause.proofs.Fields.{by_mark}
@@ -34,9 +34,10 @@ taken_text none = refl
 taken_text (some n) = refl
 
 module _ (key header : Bytes) (t : ℕ) (C : Bytes) where
-  pub no_locale : (e : NoMark) → Err e ≡ mark_as (read_header header) → None ≡ taken_as (opened_pause key header t C)
-  no_locale Header e = either_way key header t C (λ text z f. ap taken_as (sym (by_mark header text (Err Header) e)))
-  no_locale Locale e = either_way key header t C (λ text z f. ap taken_as (sym (by_mark header text (Err Locale) e)))
+  pub no_locale : (r : Refusal) → Err r ≡ mark_as (reading header) → None ≡ taken_as (opened_pause key header t C)
+  no_locale r e =
+      either_way key header t C
+      (λ text z f. sym (ap taken_as (by_mark header text (Err r) e) ∙ ap (λ (b : Bool). if b then Some 0 else None) (ne_eqb (number_of r) 0 (refuses r))))
 
   -- an answer over an output of zeros, of just the string's length
   module _ (a : AnswerAt) (last out : Bytes) (zeros : out ≡ replicate (length C) 0) (call : outcome_of a last ≡ opening key header t C out) where
@@ -46,7 +47,7 @@ module _ (key header : Bytes) (t : ℕ) (C : Bytes) where
     pub no_text : (a.number ≡ 0 → ⊥) → None ≡ taken_as (opened_pause key header t C)
     no_text p = unopened key header t C (λ e. p (ap (λ (o : OutcomeAt). o.number) is_opening ∙ e))
 
-    pub by_text : a.number ≡ 0 → (m : ℕ) → Ok m ≡ mark_as (read_header header) → (text : Bytes) → text ≡ take a.length last
+    pub by_text : a.number ≡ 0 → (m : ℕ) → Ok m ≡ mark_as (reading header) → (text : Bytes) → text ≡ take a.length last
         → read_as (read_pause m text) ≡ taken_as (opened_pause key header t C)
     by_text z m k text e =
         let o = opening key header t C (replicate (length C) 0) in
@@ -58,15 +59,15 @@ module _ (key header : Bytes) (t : ℕ) (C : Bytes) where
 
 -- by whether the header has a mark
 module _ (key header : Bytes) (t : ℕ) (C : Bytes) where
-  pub none_marked : (r : Result ℕ NoMark) → r ≡ mark_as (read_header header) → result_ok r ≡ None → None ≡ taken_as (opened_pause key header t C)
+  pub none_marked : (r : Result ℕ Refusal) → r ≡ mark_as (reading header) → result_ok r ≡ None → None ≡ taken_as (opened_pause key header t C)
   none_marked (Err n) e f = no_locale key header t C n e
   none_marked (Ok m) e f = cc
 
-pub some_marked : (header : Bytes) (m : ℕ) (r : Result ℕ NoMark) → r ≡ mark_as (read_header header) → result_ok r ≡ Some m → Ok m ≡ mark_as (read_header header)
+pub some_marked : (header : Bytes) (m : ℕ) (r : Result ℕ Refusal) → r ≡ mark_as (reading header) → result_ok r ≡ Some m → Ok m ≡ mark_as (reading header)
 some_marked header m (Err n) e f = cc
 some_marked header m (Ok k) e f = let same : k ≡ m = cc in ap (λ (n : ℕ). ok n) (sym same) ∙ e
   where
-    ok : ℕ → Result ℕ NoMark
+    ok : ℕ → Result ℕ Refusal
     ok n = Ok n
 
 -- ---- Record k of a file

@@ -4,10 +4,10 @@
 #![tactic(auto)]
 
 ghost use Rattle.std.specs.Prelude.{◌≡◌, ◌<◌, length, replicate};
-ghost use Rattle.paper.specs.Document01.{read_header};
+ghost use Rattle.paper.specs.Document01.{reading};
 ghost use Rattle.paper.specs.DayFile.{read_day};
 ghost use Rattle.paper.specs.Ledger.{opened_pause, report_of, reporting, reporting_figures};
-ghost use Rattle.answer.specs.Outcomes.{outcome};
+ghost use Rattle.answer.specs.Outcomes.{outcome_in};
 ghost use Rattle.day_find.specs.Finds.{headers_in, records_in};
 ghost use Rattle.day_marks.specs.Marks.{marks_of};
 ghost use Rattle.pause_mark.specs.Marks.{mark_as};
@@ -15,15 +15,8 @@ ghost use Rattle.mean.specs.Reports.{meaning};
 ghost use Rattle.ledger.specs.Pauses.{taken_as, pauses_in, pause_at, totals_of};
 ghost use Rattle.ledger.specs.Reports.{reported_as};
 
-use answer::{Answer, StretchBytes};
+use answer::{Refusal, StretchBytes};
 use mean::{Report, Totals};
-
-// The report of a file, or the number by which it is refused.
-#[derive(Clone, Copy)]
-enum Told {
-    Refused(u32),
-    Is(Report),
-}
 
 // The pause of a sealed string under a header with this mark, opened into a buffer of just its length.
 fn open_in(
@@ -34,7 +27,7 @@ fn open_in(
     mark: u8,
     out: &mut [u8],
 ) -> Option<u64>
-    requires { (Ok mark ≡ mark_as (read_header header.now)) × (out.old ≡ replicate (length sealed.now) 0) }
+    requires { (Ok mark ≡ mark_as (reading header.now)) × (out.old ≡ replicate (length sealed.now) 0) }
     ensures { result ≡ taken_as (opened_pause key.now header.now stretch sealed.now) }
 {
     let Ok(length) = record::open(key, header, StretchBytes(stretch), sealed, &mut *out) else {
@@ -101,57 +94,41 @@ fn report_of(key: &[u8], file: &[u8], headers: usize, records: usize) -> Report
     mean::with_mean(totals(key, file, headers, records))
 }
 
-// The report of a file, or the number by which it is refused: 9, then 1. The key's length is tested also where there is no record.
-fn reported(key: &[u8], file: &[u8]) -> Told
+// The report of a file: 9, then 1. The key's length is tested also where there is no record.
+fn reported(key: &[u8], file: &[u8]) -> Result<Report, Refusal>
     ensures { result ≡ reported_as key.now (read_day file.now) }
 {
     let Some(day) = day::check(file) else {
-        return Told::Refused(9);
+        return Err(Refusal::NoRecord);
     };
     if key.len() != 48 {
-        return Told::Refused(1);
+        return Err(Refusal::KeyLength);
     }
-    Told::Is(report_of(key, file, day.headers, day.records))
+    Ok(report_of(key, file, day.headers, day.records))
 }
 
 // The report's line. Nothing is written before the answer is settled.
-pub fn report(key: &[u8], file: &[u8], out: &mut [u8]) -> Answer
-    ensures { outcome result out.new ≡ reporting key.now file.now out.old }
+pub fn report(key: &[u8], file: &[u8], out: &mut [u8]) -> Result<usize, Refusal>
+    ensures { outcome_in result out.new ≡ reporting key.now file.now out.old }
 {
-    match reported(key, file) {
-        Told::Refused(number) => Answer { number, length: 0 },
-        Told::Is(r) => {
-            let length = line::line_length(r);
-            if out.len() < length {
-                return Answer {
-                    number: 6,
-                    length: 0,
-                };
-            }
-            line::put_line(r, out);
-            Answer { number: 0, length }
-        }
+    let r = reported(key, file)?;
+    let length = line::line_length(r);
+    if out.len() < length {
+        return Err(Refusal::NoRoom);
     }
+    line::put_line(r, out);
+    Ok(length)
 }
 
 // The report's six numbers in place of the line.
-pub fn figures(key: &[u8], file: &[u8], out: &mut [u64]) -> Answer
-    ensures { outcome result out.new ≡ reporting_figures key.now file.now out.old }
+#[tactic(auto, using(crate::proofs::Settled::few_figures))]
+pub fn figures(key: &[u8], file: &[u8], out: &mut [u64]) -> Result<usize, Refusal>
+    ensures { outcome_in result out.new ≡ reporting_figures key.now file.now out.old }
 {
-    match reported(key, file) {
-        Told::Refused(number) => Answer { number, length: 0 },
-        Told::Is(r) => {
-            if out.len() < 6 {
-                return Answer {
-                    number: 6,
-                    length: 0,
-                };
-            }
-            mean::put_figures(r, out);
-            Answer {
-                number: 0,
-                length: 6,
-            }
-        }
+    let r = reported(key, file)?;
+    if out.len() < 6 {
+        return Err(Refusal::NoRoom);
     }
+    mean::put_figures(r, out);
+    Ok(6)
 }

@@ -1,35 +1,36 @@
 -- A text under a header, by the header's mark and by the text.
-use Rattle.std.proofs.Common.{◌≡◌, refl, ap, sym, ◌∙◌, ℕ, List, Option, Some, None, Result, Ok, Err}
+use Rattle.std.proofs.Common.{◌≡◌, refl, ap, sym, ◌∙◌, ℕ, List, Option, Result, Ok, Err}
+use Rattle.std.specs.Option.{ok_or}
 use Rattle.std.proofs.Math.Option as maybe
 use Rattle.paper.specs.Strings.{Bytes}
-use Rattle.paper.specs.Document01.{read_header}
+use Rattle.paper.specs.Document01.{Read, as_strings, bad_entry, reading, strings_of, read_header}
 use Rattle.paper.specs.Pause.{Pause, no_pause, header_mark, read_pause, pause_read, pause_under, pause_with, pausing}
-use Rattle.pause_mark.specs.declared.NoMark.{NoMark}
-use Rattle.pause_mark.specs.declared.NoMark.TheVariants.{Header, Locale}
+use Rattle.answer.specs.declared.Refusal.{Refusal}
+use Rattle.answer.specs.declared.Refusal.TheVariants.{NoPause}
+use Rattle.answer.specs.Outcomes.{number_of}
+use Rattle.pause.specs.Fields.{field_of}
 use Rattle.pause_unit.specs.Answers.{read_as}
 use Rattle.pause_mark.specs.Marks.{known_as, mark_as}
 
 -- what a header and a text come to
-abbrev pub pause_as : Result ℕ NoMark → Bytes → Pause
-pause_as (Err Header) text = no_pause 3
-pause_as (Err Locale) text = no_pause 15
+abbrev pub pause_as : Result ℕ Refusal → Bytes → Pause
+pause_as (Err r) text = no_pause (number_of r)
 pause_as (Ok m) text = pause_read (read_pause m text)
 
-pub by_mark : (h text : Bytes) (m : Result ℕ NoMark) → m ≡ mark_as (read_header h) → pausing h text ≡ pause_as m text
-unfolding pausing
-by_mark h text m e = go (read_header h) ∙ ap (λ (k : Result ℕ NoMark). pause_as k text) (sym e)
+pub by_mark : (h text : Bytes) (m : Result ℕ Refusal) → m ≡ mark_as (reading h) → pausing h text ≡ pause_as m text
+unfolding pausing read_header
+by_mark h text m e = go (reading h) ∙ ap (λ (k : Result ℕ Refusal). pause_as k text) (sym e)
   where
     known : (o : maybe.Option ℕ) → pause_under o text ≡ pause_as (known_as o) text
     known maybe.none = refl
     known (maybe.some n) = refl
 
-    go : (o : maybe.Option (List Bytes)) → pause_with o text ≡ pause_as (mark_as o) text
-    go maybe.none = refl
-    go (maybe.some ss) = known (header_mark ss)
+    go : (r : Read) → pause_with (strings_of r) text ≡ pause_as (mark_as r) text
+    go (bad_entry k) = refl
+    go (as_strings ss) = known (header_mark ss)
 
 abbrev pub text_as : Option ℕ → Pause
-text_as None = no_pause 16
-text_as (Some n) = record { number = 0; microseconds = n }
+text_as r = field_of (ok_or r NoPause)
 
 pub by_text : (o : maybe.Option ℕ) (r : Option ℕ) → r ≡ read_as o → pause_read o ≡ text_as r
 by_text maybe.none r e = ap text_as (sym e)

@@ -9,7 +9,7 @@ use native.Mathlib.Omega.{arith}
 use borrow.Author.Tests.{le-ltb}
 use lib.ListN.{length, get_or, take, drop, length-drop}
 use lib.Seq.{drop-cons, drop-drop, get_or-drop, take-append_seam, drop-append_seam}
-use Rattle.std.specs.Prelude.{if◌then◌else◌, Some, None, Ok, Err}
+use Rattle.std.specs.Prelude.{if◌then◌else◌, Some, None, Result, Ok, Err}
 use Rattle.std.specs.Prelude as O
 use Rattle.paper.specs.Strings.{Bytes, Below, digits}
 use Rattle.paper.specs.Document01.{Read, as_strings, bad_entry, reading, strings_of, read_header, write_strings, write_header}
@@ -19,25 +19,32 @@ use Rattle.laws.proofs.DayWritten.{strings_long}
 use Rattle.header.specs.declared.Place.{Place}
 use Rattle.header.specs.declared.BadEntry.{BadEntry}
 use Rattle.header.specs.Places.{size_at, entry_at, read_as}
-use Rattle.pause_mark.specs.declared.NoMark.TheVariants as no_mark
+use Rattle.answer.specs.declared.Refusal.{Refusal}
+use Rattle.answer.specs.declared.Refusal.TheVariants.{BadHeader, NoLocale}
 use Rattle.pause_mark.specs.Marks.{known_as, mark_as}
 
 -- ---- What the header's reader says
 
-pub strings_read : (h : Bytes) (n : ℕ) → Ok n ≡ read_as (reading h) → (ss : List Bytes) × (read_header h ≡ some ss) × (length ss ≡ n)
+strings_are : (h : Bytes) (ss : List Bytes) → reading h ≡ as_strings ss → read_header h ≡ some ss
 unfolding read_header
+strings_are h ss e = ap strings_of e
+
+pub strings_read : (h : Bytes) (n : ℕ) → Ok n ≡ read_as (reading h) → (ss : List Bytes) × (reading h ≡ as_strings ss) × (length ss ≡ n)
 strings_read h n e = go (reading h) e
   where
-    go : (r : Read) → Ok n ≡ read_as r → (ss : List Bytes) × (strings_of r ≡ some ss) × (length ss ≡ n)
+    go : (r : Read) → Ok n ≡ read_as r → (ss : List Bytes) × (r ≡ as_strings ss) × (length ss ≡ n)
     go (bad_entry k) e = absurd (let z : ◌≡◌ {A = ℕ} 0 1 = cc in omega arith)
     go (as_strings ss) e = (ss, refl, cc)
 
-pub not_read : (h : Bytes) (k : BadEntry) → Err k ≡ read_as (reading h) → Err no_mark.Header ≡ mark_as (read_header h)
-unfolding read_header
+pub not_read : (h : Bytes) (k : BadEntry) → Err k ≡ read_as (reading h) → Err (BadHeader k) ≡ mark_as (reading h)
 not_read h k e = go (reading h) e
   where
-    go : (r : Read) → Err k ≡ read_as r → Err no_mark.Header ≡ mark_as (strings_of r)
-    go (bad_entry j) e = refl
+    refused : Result ℕ BadEntry → Result ℕ Refusal
+    refused (Ok n) = Err NoLocale
+    refused (Err bad) = Err (BadHeader bad)
+
+    go : (r : Read) → Err k ≡ read_as r → Err (BadHeader k) ≡ mark_as r
+    go (bad_entry j) e = ap refused e
     go (as_strings ss) e = cc
 
 -- ---- The locale is the fourth of four
@@ -60,8 +67,8 @@ not_four (a ∷ b ∷ c ∷ []) p = refl
 not_four (a ∷ b ∷ c ∷ d ∷ []) p = absurd (p refl)
 not_four (a ∷ b ∷ c ∷ d ∷ s ∷ ss) p = refl
 
-pub other_count : (o : Option (List Bytes)) (ss : List Bytes) → o ≡ some ss → (length ss ≡ 4 → ⊥) → Err no_mark.Locale ≡ mark_as o
-other_count o ss e p = sym (ap mark_as e ∙ ap known_as (not_four ss p))
+pub other_count : (r : Read) (ss : List Bytes) → r ≡ as_strings ss → (length ss ≡ 4 → ⊥) → Err NoLocale ≡ mark_as r
+other_count r ss e p = sym (ap mark_as e ∙ ap known_as (not_four ss p))
 
 -- ---- An entry
 
@@ -114,13 +121,13 @@ string_fits (s ∷ ss) (suc i) p q = string_fits ss i p.1 (omega arith)
 -- at a place stand the strings from number i on, of four
 pub record Walked (h : Bytes) (i at : ℕ) : Type 0 where
   pub strings : List Bytes
-  pub reads : read_header h ≡ some strings
+  pub reads : reading h ≡ as_strings strings
   pub four : length strings ≡ 4
   pub there : drop at h ≡ write_strings (drop i strings)
 
-pub begun : (h : Bytes) (ss : List Bytes) → Below 256 h → read_header h ≡ some ss → length ss ≡ 4 → Walked h 0 1
+pub begun : (h : Bytes) (ss : List Bytes) → Below 256 h → reading h ≡ as_strings ss → length ss ≡ 4 → Walked h 0 1
 unfolding write_header
-begun h ss low e four = record { strings = ss; reads = e; four = four; there = ap (drop 1) (sym (read_write h ss low e)) }
+begun h ss low e four = record { strings = ss; reads = e; four = four; there = ap (drop 1) (sym (read_write h ss low (strings_are h ss e))) }
 
 module _ (h : Bytes) (low : Below 256 h) (i at : ℕ) (few : i < 4) (w : Walked h i at) where
   abbrev own : Bytes
@@ -130,7 +137,7 @@ module _ (h : Bytes) (low : Below 256 h) (i at : ℕ) (few : i < 4) (w : Walked 
   own_there = w.there ∙ ap write_strings (drop-cons w.strings i [] (omega (arith, w.four)))
 
   own_short : length own ≤ 1024
-  own_short = string_fits w.strings i (read_readable h w.strings low w.reads).each (omega (arith, w.four))
+  own_short = string_fits w.strings i (read_readable h w.strings low (strings_are h w.strings w.reads)).each (omega (arith, w.four))
 
   -- the entry is never bad
   pub never_bad : None ≡ entry_at h at → ⊥
@@ -163,5 +170,5 @@ module _ (h : Bytes) (low : Below 256 h) (i at : ℕ) (few : i < 4) (w : Walked 
         (λ j. take (long j) (drop (start_is j) h)) ∙ string_there h at own (drop (suc i) w.strings) own_there own_short
 
 -- the mark of the fourth string
-pub marked_by : (h part : Bytes) (w : List Bytes) → read_header h ≡ some w → length w ≡ 4 → part ≡ get_or w 3 [] → mark_as (read_header h) ≡ known_as (mark_of part)
+pub marked_by : (h part : Bytes) (w : List Bytes) → reading h ≡ as_strings w → length w ≡ 4 → part ≡ get_or w 3 [] → mark_as (reading h) ≡ known_as (mark_of part)
 marked_by h part w reads four is = ap mark_as reads ∙ ap known_as (fourth w four ∙ ap mark_of (sym is))
