@@ -27,10 +27,7 @@ fn number_of(answer: Result<usize, Refusal>) -> u32
 fn length_of(answer: Result<usize, Refusal>) -> u64
     ensures { result ≡ size_in answer }
 {
-    match answer {
-        Ok(length) => length as u64,
-        Err(_) => 0,
-    }
+    answer.unwrap_or(0) as u64
 }
 
 // The bad entry beside the number 3, and else 0.
@@ -137,8 +134,8 @@ pub fn aez_day_write(
     ensures { (result ≡ (writing lengths.now headers.now numbers.now stretches.now sizes.now sealed.now out.old).number) × (size.new ≡ (writing lengths.now headers.now numbers.now stretches.now sizes.now sealed.now out.old).size) × (out.new ≡ (writing lengths.now headers.now numbers.now stretches.now sizes.now sealed.now out.old).output) }
 {
     let answer = day_write::write(lengths, headers, numbers, stretches, sizes, sealed, out);
-    *size = answer.length as u64;
-    answer.number
+    *size = length_of(answer);
+    number_of(answer)
 }
 
 // How many records a day file has.
@@ -210,8 +207,8 @@ pub fn aez_day_clear(buffer: &mut [u8], size: u64, dropped: &[u64], new_size: &m
     ensures { (result ≡ (clearing buffer.old size dropped.now).number) × (new_size.new ≡ (clearing buffer.old size dropped.now).size) × (buffer.new ≡ (clearing buffer.old size dropped.now).output) }
 {
     let answer = day_clear::clear(buffer, size, dropped);
-    *new_size = answer.length as u64;
-    answer.number
+    *new_size = length_of(answer);
+    number_of(answer)
 }
 
 // Appending a record to a day file that stands first in a buffer.
@@ -227,6 +224,6 @@ pub fn aez_day_append(
     ensures { (result ≡ (appending buffer.old size number header.now stretch sealed.now).number) × (new_size.new ≡ (appending buffer.old size number header.now stretch sealed.now).size) × (buffer.new ≡ (appending buffer.old size number header.now stretch sealed.now).output) }
 {
     let answer = day_append::append(buffer, size, number, header, stretch, sealed);
-    *new_size = answer.length as u64;
-    answer.number
+    *new_size = length_of(answer);
+    number_of(answer)
 }

@@ -10,7 +10,7 @@ use borrow.Author.Tests.{eqb-true, eqb-false, le-ltb}
 use lib.Dec.{eqb}
 use lib.ListN.{length, take, drop, replicate, get_elem?}
 use lib.Seq.{take-append_seam}
-use Rattle.std.specs.Prelude.{if◌then◌else◌}
+use Rattle.std.specs.Prelude.{Result, Ok, Err, if◌then◌else◌}
 use Rattle.paper.specs.Strings.{Bytes, Below}
 use Rattle.paper.specs.Document01.{Outcome, OutcomeAt, refused, done, opening}
 use Rattle.paper.specs.DayFile.{Record, Day, header_of, write_day, longest_file, read_day, open_record, open_in, opening_record, headers_of, day_from, write_as, writing}
@@ -18,9 +18,10 @@ use Rattle.laws.proofs.Demand3.{Fixed}
 use Rattle.laws.proofs.DayWritten.{RecordsFit, Layout}
 use Rattle.laws.proofs.DayReading.{write_read}
 use Rattle.laws.proofs.DayLists.{headers_listed_lem, records_listed_lem}
-use Rattle.answer.specs.Outcomes.{outcome}
+use Rattle.answer.specs.Outcomes.{number_in, size_in, outcome, outcome_in, AnswerAt}
 use Rattle.answer.specs.declared.Answer.{Answer}
-use Rattle.answer.specs.Outcomes.{AnswerAt}
+use Rattle.answer.specs.declared.Refusal.{Refusal}
+use Rattle.answer.proofs.Refusals.{refuses}
 use Rattle.settle.specs.Settled.{Settled, settled_sealing}
 use Rattle.settle.proofs.Settles.{Fits, sealing_fits, sealing_refused}
 use Rattle.day_write.specs.Settled.{settled_for}
@@ -32,8 +33,8 @@ use Rattle.audit.proofs.Demands.{Sealed, open_after_seal}
 -- ---- The two contracts
 
 -- a call that was lent these lists answered r and left these bytes in the output
-abbrev pub Wrote : (ls : List ℕ) (J : Bytes) (hs ts ns : List ℕ) (X out : Bytes) (r : Answer) (last : Bytes) → Type 0
-Wrote ls J hs ts ns X out r last = outcome r last ≡ writing ls J hs ts ns X out
+abbrev pub Wrote : (ls : List ℕ) (J : Bytes) (hs ts ns : List ℕ) (X out : Bytes) (r : Result ℕ Refusal) (last : Bytes) → Type 0
+Wrote ls J hs ts ns X out r last = outcome_in r last ≡ writing ls J hs ts ns X out
 
 abbrev pub OpenedRecord : (key file : Bytes) (k : ℕ) (out : Bytes) (r : Answer) (last : Bytes) → Type 0
 OpenedRecord key file k out r last = outcome r last ≡ opening_record key file k out
@@ -48,8 +49,8 @@ pub open_record_promises : (κs : _) (a : _) (r : _) (e : _) → open-reads.Lear
 open_record_promises κs a r e p = p
 
 -- what stands first in the output of a call that answered r
-abbrev pub written : Answer → Bytes → Bytes
-written r last = take r.length last
+abbrev pub written : Result ℕ Refusal → Bytes → Bytes
+written r last = take (size_in r) last
 
 -- sealing that answers 0 passed its tests
 pub sealed_passes : (key header : Bytes) (t : ℕ) (M out : Bytes) (r : AnswerAt) (last : Bytes) → Sealed key header t M out r last → r.number ≡ 0 → Fits key header t (length M) (length out)
@@ -60,53 +61,52 @@ sealed_passes key header t M out r last call z = go (settled_sealing key header 
     go n s false e =
         absurd (eqb-false n.number 0 e (sym (ap (λ (o : OutcomeAt). o.number) (call ∙ sealing_refused key header t M out n s (eqb-false n.number 0 e))) ∙ z))
 
-module _ (ls : List ℕ) (J : Bytes) (hs ts ns : List ℕ) (X out : Bytes) (r : Answer) (last : Bytes) (call : Wrote ls J hs ts ns X out r last) (zero : r.number ≡ 0) where
+module _ (ls : List ℕ) (J : Bytes) (hs ts ns : List ℕ) (X out : Bytes) (r : Result ℕ Refusal) (last : Bytes) (call : Wrote ls J hs ts ns X out r last) (zero : number_in r ≡ 0) where
   -- answer 0 says that the lists are within the layout, and that their file is short enough and has room
-  fits : Accepted ls J hs ts ns X (length out)
-  fits = go (settled_for (day_from (headers_of ls J) hs ts ns X) (length out)) refl (eqb (settled_for (day_from (headers_of ls J) hs ts ns X) (length out)) 0) refl
+  fits : (n : ℕ) × Accepted ls J hs ts ns X n (length out)
+  fits = go (settled_for (day_from (headers_of ls J) hs ts ns X) (length out)) refl
     where
-      go : (n : ℕ) → n ≡ settled_for (day_from (headers_of ls J) hs ts ns X) (length out) → (b : Bool) → eqb n 0 ≡ b → Accepted ls J hs ts ns X (length out)
-      go n s true e = accepted ls J hs ts ns X n (length out) s (eqb-true n 0 e)
-      go n s false e =
-          absurd (eqb-false n 0 e (ap (λ (o : Outcome). o.number) (write_refused ls J hs ts ns X n out s (eqb-false n 0 e) ∙ sym call) ∙ zero))
+      go : (a : Result ℕ Refusal) → a ≡ settled_for (day_from (headers_of ls J) hs ts ns X) (length out) → (n : ℕ) × Accepted ls J hs ts ns X n (length out)
+      go (Ok n) s = (n, accepted ls J hs ts ns X n (length out) s)
+      go (Err q) s = absurd (refuses q (ap (λ (o : Outcome). o.number) (write_refused ls J hs ts ns X q out s ∙ sym call) ∙ zero))
 
   -- the day that the lists are
   pub handed_day : Day
-  handed_day = fits.all.day
+  handed_day = fits.1.all.day
 
   pub handed_lists : day_from (headers_of ls J) hs ts ns X ≡ some handed_day
   unfolding handed_day
-  handed_lists = fits.all.is
+  handed_lists = fits.1.all.is
 
   day_fits : Layout handed_day
   unfolding handed_day
   day_fits =
-      let h = fits.all in
+      let h = fits.1.all in
       record {
         headers_fit = (headers_listed_lem ls J h.day.headers h.headers_are).each;
         records_fit = subst (λ (n : ℕ). RecordsFit n h.day.records) (sym h.headers_many) (records_listed_lem (length ls) hs ts ns X h.day.records h.records_are).each;
-        short = omega (arith, h.size, fits.short);
+        short = omega (arith, h.size, fits.1.short);
       }
 
-  wrote_file : outcome r last ≡ done (length (write_day handed_day)) (write_day handed_day) out
+  wrote_file : outcome_in r last ≡ done (length (write_day handed_day)) (write_day handed_day) out
   unfolding handed_day writing write_as
   wrote_file =
-      let h = fits.all in
+      let h = fits.1.all in
       let file = write_day h.day in
       call
       ∙ ap (λ (o : Option Day). write_as o out) h.is
-      ∙ (λ i. if le-ltb longest_file (length file) (omega (arith, h.size, fits.short)) i then refused 4 out else if le-ltb (length out) (length file) (omega (arith, h.size, fits.has_room)) i then refused 6 out else done (length file) file out)
+      ∙ (λ i. if le-ltb longest_file (length file) (omega (arith, h.size, fits.1.short)) i then refused 4 out else if le-ltb (length out) (length file) (omega (arith, h.size, fits.1.has_room)) i then refused 6 out else done (length file) file out)
 
   -- the file stands first in the output
   pub file_first : written r last ≡ write_day handed_day
   file_first = (λ i. take (wrote_file i).size (wrote_file i).output) ∙ take-append_seam (write_day handed_day) (drop (length (write_day handed_day)) out)
 
   -- and its length follows from the lists
-  pub file_length : (r.length ≡ 12 + 2 * length ls + length J + 11 * length ns + length X) × (r.length ≤ length out)
+  pub file_length : (size_in r ≡ 12 + 2 * length ls + length J + 11 * length ns + length X) × (size_in r ≤ length out)
   unfolding handed_day
   file_length =
-      let size : r.length ≡ length (write_day handed_day) = ap (λ (o : Outcome). o.size) wrote_file in
-      (size ∙ fits.all.size, omega (arith, size, fits.all.size, fits.has_room))
+      let size : size_in r ≡ length (write_day handed_day) = ap (λ (o : Outcome). o.size) wrote_file in
+      (size ∙ fits.1.all.size, omega (arith, size, fits.1.all.size, fits.1.has_room))
 
   -- what the writer wrote reads as the day
   pub written_day : read_day (written r last) ≡ some handed_day

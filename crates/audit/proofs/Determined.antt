@@ -24,7 +24,7 @@ use Rattle.answer.specs.declared.Refusal.{Refusal}
 use Rattle.answer.proofs.Refusals.{one_answer, one_test}
 use Rattle.settle.specs.Settled.{Settled, settled_by}
 use Rattle.answer.specs.declared.Refusal.TheVariants.{KeyLength, LongStretch, BadHeader, TooLong, ShortSealed, NoRoom, DoesNotOpen, LongItem, NoRecord, NoLocale, NoPause, BadList}
-use Rattle.audit.proofs.Numbers.{building_no_3}
+use Rattle.audit.proofs.Numbers.{building_no_3, writing_no_3, clearing_no_3, appending_no_3}
 use Rattle.std.specs.Prelude.{Result, Ok, Err}
 use Rattle.paper.specs.DayFile.{before, read_records, Listing}
 use Rattle.day_steps.specs.declared.Entry.{Entry}
@@ -658,7 +658,9 @@ pub day_put_headers_determined : (κs : _) (a : _) (z w : _) (e f : _) → day-p
 day_put_headers_determined κs a z w e f p q = (one p.0 q.0, one p.1 q.1)
 
 pub day_write_determined : (κs : _) (a : _) (z w : _) (e f : _) → day-write.Learnt κs a z e → day-write.Learnt κs a w f → (z ≡ w) × (e.1.1.1.1.1.1.0.now ≡ f.1.1.1.1.1.1.0.now)
-day_write_determined κs a z w e f p q = one_outcome z w e.1.1.1.1.1.1.0.now f.1.1.1.1.1.1.0.now _ p q
+day_write_determined κs a z w e f p q =
+    one_outcome_in z w e.1.1.1.1.1.1.0.now f.1.1.1.1.1.1.0.now _
+    (writing_no_3 a.0.now a.1.0.now a.1.1.0.now a.1.1.1.0.now a.1.1.1.1.0.now a.1.1.1.1.1.0.now a.1.1.1.1.1.1.0.now) p q
 
 pub day_put_record_determined : (κs : _) (a : _) (z w : _) (e f : _) → day-put-record.Learnt κs a z e → day-put-record.Learnt κs a w f → e.0.now ≡ f.0.now
 day_put_record_determined κs a z w e f p q = one p q
@@ -679,13 +681,14 @@ pub day_put_grown_determined : (κs : _) (a : _) (z w : _) (e f : _) → day-put
 day_put_grown_determined κs a z w e f p q = one p q
 
 pub day_append_determined : (κs : _) (a : _) (z w : _) (e f : _) → day-append.Learnt κs a z e → day-append.Learnt κs a w f → (z ≡ w) × (e.0.now ≡ f.0.now)
-day_append_determined κs a z w e f p q = one_outcome z w e.0.now f.0.now _ p q
+day_append_determined κs a z w e f p q =
+    one_outcome_in z w e.0.now f.0.now _ (appending_no_3 a.0.now a.1.0 a.1.1.0 a.1.1.1.0.now a.1.1.1.1.0 a.1.1.1.1.1.0.now) p q
 
 pub day_put_cleared_determined : (κs : _) (a : _) (z w : _) (e f : _) → day-put-cleared.Learnt κs a z e → day-put-cleared.Learnt κs a w f → (z ≡ w) × (e.0.now ≡ f.0.now)
 day_put_cleared_determined κs a z w e f p q = (one p.0 q.0, one p.1 q.1)
 
 pub day_clear_determined : (κs : _) (a : _) (z w : _) (e f : _) → day-clear.Learnt κs a z e → day-clear.Learnt κs a w f → (z ≡ w) × (e.0.now ≡ f.0.now)
-day_clear_determined κs a z w e f p q = one_outcome z w e.0.now f.0.now _ p q
+day_clear_determined κs a z w e f p q = one_outcome_in z w e.0.now f.0.now _ (clearing_no_3 a.0.now a.1.0 a.1.1.0.now) p q
 
 -- ---- What other programs link: `aez`
 

@@ -11,7 +11,7 @@ use borrow.Author.Tests.{ltb-false, le-ltb}
 use lib.Dec.{ltb}
 use lib.ListN.{length, take, drop, replicate, get_elem?, length-append}
 use lib.Seq.{take-append_seam, drop-append_seam}
-use Rattle.std.specs.Prelude.{if◌then◌else◌}
+use Rattle.std.specs.Prelude.{Result, if◌then◌else◌}
 use Rattle.paper.specs.Strings.{Bytes, Below}
 use Rattle.paper.specs.Document01.{Outcome, OutcomeAt, refused, done, opening}
 use Rattle.paper.specs.DayFile.{Record, Day, header_of, write_day, longest_file, read_day, open_record, open_in, opening_record}
@@ -23,9 +23,9 @@ use Rattle.laws.proofs.DayReading.{write_read, read_write, record_fits_lem}
 use Rattle.laws.proofs.DayPlaces.{elem_drop, elem_fits}
 use Rattle.laws.proofs.DayCleared.{cleared_within, cleared_again, kept_record, kept_header}
 use Rattle.laws.proofs.DayGrown.{grown_within, grown_before, grown_last, same_headers}
-use Rattle.answer.specs.Outcomes.{outcome}
+use Rattle.answer.specs.Outcomes.{number_in, size_in, outcome, outcome_in, AnswerAt}
 use Rattle.answer.specs.declared.Answer.{Answer}
-use Rattle.answer.specs.Outcomes.{AnswerAt}
+use Rattle.answer.specs.declared.Refusal.{Refusal}
 use Rattle.day_clear.proofs.clear.Reads as clear_reads
 use Rattle.day_append.proofs.append.Reads as append-reads
 use Rattle.audit.proofs.Demands.{Sealed, open_after_seal}
@@ -34,11 +34,11 @@ use Rattle.audit.proofs.DayFiles.{OpenedRecord, written, sealed_passes}
 -- ---- The two contracts
 
 -- a call that was lent this buffer and list answered r and left these bytes in the buffer
-abbrev pub Cleared : (B : Bytes) (size : ℕ) (dropped : List ℕ) (r : Answer) (last : Bytes) → Type 0
-Cleared B size dropped r last = outcome r last ≡ clearing B size dropped
+abbrev pub Cleared : (B : Bytes) (size : ℕ) (dropped : List ℕ) (r : Result ℕ Refusal) (last : Bytes) → Type 0
+Cleared B size dropped r last = outcome_in r last ≡ clearing B size dropped
 
-abbrev pub Appended : (B : Bytes) (size number : ℕ) (header : Bytes) (stretch : ℕ) (sealed : Bytes) (r : Answer) (last : Bytes) → Type 0
-Appended B size number header stretch sealed r last = outcome r last ≡ appending B size number header stretch sealed
+abbrev pub Appended : (B : Bytes) (size number : ℕ) (header : Bytes) (stretch : ℕ) (sealed : Bytes) (r : Result ℕ Refusal) (last : Bytes) → Type 0
+Appended B size number header stretch sealed r last = outcome_in r last ≡ appending B size number header stretch sealed
 
 -- they are the contracts that the checker made from the source
 pub clear_promises : (κs : _) (a : _) (r : _) (e : _) → clear_reads.Learnt κs a r e → Cleared a.0.now a.1.0 a.1.1.0.now r e.0.now
@@ -62,31 +62,31 @@ by_reading key file k out day own e f = ap (λ (o : Option Day). open_in key o k
 
 -- ---- Clearing
 
-module _ (B : Bytes) (low : Below 256 B) (size : ℕ) (day : Day) (reads : read_day (take size B) ≡ some day) (dropped : List ℕ) (r : Answer) (last : Bytes)
-    (call : Cleared B size dropped r last) (zero : r.number ≡ 0) where
+module _ (B : Bytes) (low : Below 256 B) (size : ℕ) (day : Day) (reads : read_day (take size B) ≡ some day) (dropped : List ℕ) (r : Result ℕ Refusal) (last : Bytes)
+    (call : Cleared B size dropped r last) (zero : number_in r ≡ 0) where
   abbrev file : Bytes
   file = write_day (cleared dropped day)
 
   -- answer 0 says that the file and the list are right
-  is : outcome r last ≡ shrunk file size B
+  is : outcome_in r last ≡ shrunk file size B
   unfolding clearing clear_in
   is = by_length (ltb (length B) size) call
     where
-      not_0 : (n : ℕ) → (0 < n) → outcome r last ≡ refused n B → outcome r last ≡ shrunk file size B
+      not_0 : (n : ℕ) → (0 < n) → outcome_in r last ≡ refused n B → outcome_in r last ≡ shrunk file size B
       not_0 n p e = absurd (omega (arith, p, ap (λ (o : Outcome). o.number) e, zero))
 
-      by_list : (b : Bool) → outcome r last ≡ (if b then shrunk file size B else refused 17 B) → outcome r last ≡ shrunk file size B
+      by_list : (b : Bool) → outcome_in r last ≡ (if b then shrunk file size B else refused 17 B) → outcome_in r last ≡ shrunk file size B
       by_list true e = e
       by_list false e = not_0 17 (omega arith) e
 
-      by_length : (b : Bool) → outcome r last ≡ (if b then refused 9 B else clear_in (read_day (take size B)) size dropped B) → outcome r last ≡ shrunk file size B
+      by_length : (b : Bool) → outcome_in r last ≡ (if b then refused 9 B else clear_in (read_day (take size B)) size dropped B) → outcome_in r last ≡ shrunk file size B
       by_length true e = not_0 9 (omega arith) e
       by_length false e = by_list (rising_from 0 (length day.records) dropped) (e ∙ ap (λ (o : Option Day). clear_in o size dropped B) reads)
 
   within : Layout day
   within = (read_write (take size B) day (below_take 256 size B low) reads).within
 
-  size_is : r.length ≡ length file
+  size_is : size_in r ≡ length file
   size_is = ap (λ (o : Outcome). o.size) is
 
   whole : last ≡ file ++ (replicate (size - length file) 0 ++ drop size B)
@@ -110,19 +110,19 @@ module _ (B : Bytes) (low : Below 256 B) (size : ℕ) (day : Day) (reads : read_
       ∙ sym (by_reading key (take size B) k out day own reads e)
 
   -- clearing again with an empty list returns the same length and changes no byte
-  pub clear_again : (s : Answer) (end : Bytes) → Cleared last r.length [] s end → (s.number ≡ 0) × (s.length ≡ r.length) × (end ≡ last)
+  pub clear_again : (s : Result ℕ Refusal) (end : Bytes) → Cleared last (size_in r) [] s end → (number_in s ≡ 0) × (size_in s ≡ (size_in r)) × (end ≡ last)
   unfolding clearing clear_in rising_from
   clear_again s end again =
       let rest = replicate (size - length file) 0 ++ drop size B in
-      let inside : r.length ≤ length last = omega (arith, size_is, ap length whole, length-append file rest) in
+      let inside : size_in r ≤ length last = omega (arith, size_is, ap length whole, length-append file rest) in
       let same : write_day (cleared [] (cleared dropped day)) ≡ file = ap write_day (cleared_again dropped day within) in
-      let none_left : r.length - length file ≡ 0 = omega (arith, size_is) in
-      let past : drop r.length last ≡ rest = (λ i. drop (size_is i) (whole i)) ∙ drop-append_seam file rest in
-      let e : outcome s end ≡ shrunk file r.length last =
+      let none_left : size_in r - length file ≡ 0 = omega (arith, size_is) in
+      let past : drop (size_in r) last ≡ rest = (λ i. drop (size_is i) (whole i)) ∙ drop-append_seam file rest in
+      let e : outcome_in s end ≡ shrunk file (size_in r) last =
       again
-      ∙ ap (λ (b : Bool). if b then refused 9 last else clear_in (read_day (take r.length last)) r.length [] last) (le-ltb (length last) r.length inside)
-      ∙ ap (λ (o : Option Day). clear_in o r.length [] last) cleared_reads
-      ∙ ap (λ (w : Bytes). shrunk w r.length last) same in (
+      ∙ ap (λ (b : Bool). if b then refused 9 last else clear_in (read_day (take (size_in r) last)) (size_in r) [] last) (le-ltb (length last) (size_in r) inside)
+      ∙ ap (λ (o : Option Day). clear_in o (size_in r) [] last) cleared_reads
+      ∙ ap (λ (w : Bytes). shrunk w (size_in r) last) same in (
         ap (λ (o : Outcome). o.number) e,
         ap (λ (o : Outcome). o.size) e ∙ sym size_is,
         ap (λ (o : Outcome). o.output) e
@@ -134,7 +134,7 @@ module _ (B : Bytes) (low : Below 256 B) (size : ℕ) (day : Day) (reads : read_
 -- ---- Appending
 
 module _ (B : Bytes) (low : Below 256 B) (size : ℕ) (day : Day) (reads : read_day (take size B) ≡ some day) (number : ℕ) (header : Bytes) (stretch : ℕ) (sealed : Bytes)
-    (r : Answer) (last : Bytes) (call : Appended B size number header stretch sealed r last) (zero : r.number ≡ 0) where
+    (r : Result ℕ Refusal) (last : Bytes) (call : Appended B size number header stretch sealed r last) (zero : number_in r ≡ 0) where
   abbrev after : Day
   after = grown number header stretch sealed day
 
@@ -145,23 +145,23 @@ module _ (B : Bytes) (low : Below 256 B) (size : ℕ) (day : Day) (reads : read_
   record Grew : Type 0 where
     fits : append_fits number header stretch (length day.headers) ≡ true
     short : length (write_day after) ≤ longest_file
-    is : outcome r last ≡ done (length (write_day after)) (write_day after) B
+    is : outcome_in r last ≡ done (length (write_day after)) (write_day after) B
 
   grew : Grew
   unfolding appending append_in
   grew = by_length (ltb (length B) size) call
     where
-      not_0 : (n : ℕ) → (0 < n) → outcome r last ≡ refused n B → Grew
+      not_0 : (n : ℕ) → (0 < n) → outcome_in r last ≡ refused n B → Grew
       not_0 n p e = absurd (omega (arith, p, ap (λ (o : Outcome). o.number) e, zero))
 
       by_tests : (a b c : Bool) → append_fits number header stretch (length day.headers) ≡ a → ltb longest_file (length (write_day after)) ≡ b
-          → outcome r last ≡ (if not a then refused 9 B else if b then refused 6 B else if c then refused 6 B else done (length (write_day after)) (write_day after) B) → Grew
+          → outcome_in r last ≡ (if not a then refused 9 B else if b then refused 6 B else if c then refused 6 B else done (length (write_day after)) (write_day after) B) → Grew
       by_tests true false false p q e = record { fits = p; short = ltb-false longest_file (length (write_day after)) q; is = e }
       by_tests true false true p q e = not_0 6 (omega arith) e
       by_tests true true c p q e = not_0 6 (omega arith) e
       by_tests false b c p q e = not_0 9 (omega arith) e
 
-      by_length : (b : Bool) → outcome r last ≡ (if b then refused 9 B else append_in (read_day (take size B)) number header stretch sealed B) → Grew
+      by_length : (b : Bool) → outcome_in r last ≡ (if b then refused 9 B else append_in (read_day (take size B)) number header stretch sealed B) → Grew
       by_length true e = not_0 9 (omega arith) e
       by_length false e =
           by_tests (append_fits number header stretch (length day.headers)) (ltb longest_file (length (write_day after))) (ltb (length B) (length (write_day after))) refl refl
@@ -207,11 +207,11 @@ module _ (B : Bytes) (low : Below 256 B) (size : ℕ) (day : Day) (reads : read_
 -- where the file reads and the layout allows the record, the append answers 0 exactly where the grown file fits the buffer and the limit. Its
 -- length is `DayGrown.grown_long`: eleven bytes, the sealed bytes and a new header more
 module _ (B : Bytes) (size : ℕ) (day : Day) (inside : size ≤ length B) (reads : read_day (take size B) ≡ some day) (number : ℕ) (header : Bytes) (stretch : ℕ)
-    (sealed : Bytes) (fits : append_fits number header stretch (length day.headers) ≡ true) (r : Answer) (last : Bytes) (call : Appended B size number header stretch sealed r last) where
+    (sealed : Bytes) (fits : append_fits number header stretch (length day.headers) ≡ true) (r : Result ℕ Refusal) (last : Bytes) (call : Appended B size number header stretch sealed r last) where
   abbrev grown_file_lem : Bytes
   grown_file_lem = write_day (grown number header stretch sealed day)
 
-  settled : outcome r last ≡ (if ltb longest_file (length grown_file_lem) then refused 6 B else if ltb (length B) (length grown_file_lem) then refused 6 B else done (length grown_file_lem) grown_file_lem B)
+  settled : outcome_in r last ≡ (if ltb longest_file (length grown_file_lem) then refused 6 B else if ltb (length B) (length grown_file_lem) then refused 6 B else done (length grown_file_lem) grown_file_lem B)
   unfolding appending append_in
   settled =
       call
@@ -219,18 +219,18 @@ module _ (B : Bytes) (size : ℕ) (day : Day) (inside : size ≤ length B) (read
       ∙ ap (λ (o : Option Day). append_in o number header stretch sealed B) reads
       ∙ ap (λ (b : Bool). if not b then refused 9 B else if ltb longest_file (length grown_file_lem) then refused 6 B else if ltb (length B) (length grown_file_lem) then refused 6 B else done (length grown_file_lem) grown_file_lem B) fits
 
-  pub fits_in_room : length grown_file_lem ≤ longest_file → length grown_file_lem ≤ length B → r.number ≡ 0
+  pub fits_in_room : length grown_file_lem ≤ longest_file → length grown_file_lem ≤ length B → number_in r ≡ 0
   fits_in_room p q =
       ap (λ (o : Outcome). o.number)
       (settled
       ∙ ap (λ (b : Bool). if b then refused 6 B else if ltb (length B) (length grown_file_lem) then refused 6 B else done (length grown_file_lem) grown_file_lem B) (le-ltb longest_file (length grown_file_lem) p)
       ∙ ap (λ (b : Bool). if b then refused 6 B else done (length grown_file_lem) grown_file_lem B) (le-ltb (length B) (length grown_file_lem) q))
 
-  pub room_where_fits : r.number ≡ 0 → (length grown_file_lem ≤ longest_file) × (length grown_file_lem ≤ length B)
+  pub room_where_fits : number_in r ≡ 0 → (length grown_file_lem ≤ longest_file) × (length grown_file_lem ≤ length B)
   room_where_fits z = go (ltb longest_file (length grown_file_lem)) refl (ltb (length B) (length grown_file_lem)) refl settled
     where
       go : (a : Bool) → ltb longest_file (length grown_file_lem) ≡ a → (b : Bool) → ltb (length B) (length grown_file_lem) ≡ b
-          → outcome r last ≡ (if a then refused 6 B else if b then refused 6 B else done (length grown_file_lem) grown_file_lem B) → (length grown_file_lem ≤ longest_file) × (length grown_file_lem ≤ length B)
+          → outcome_in r last ≡ (if a then refused 6 B else if b then refused 6 B else done (length grown_file_lem) grown_file_lem B) → (length grown_file_lem ≤ longest_file) × (length grown_file_lem ≤ length B)
       go true p b q e = absurd (omega (arith, ap (λ (o : Outcome). o.number) e, z))
       go false p true q e = absurd (omega (arith, ap (λ (o : Outcome). o.number) e, z))
       go false p false q e = (ltb-false longest_file (length grown_file_lem) p, ltb-false (length B) (length grown_file_lem) q)

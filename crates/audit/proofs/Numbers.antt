@@ -131,6 +131,9 @@ writing_gives ls J hs ts ns X out = go (day_from (headers_of ls J) hs ts ns X)
     go none = refl
     go (some day) = by day (ltb longest_file (length (write_day day))) (ltb (length out) (length (write_day day)))
 
+pub writing_no_3 : (ls : List ℕ) (J : Bytes) (hs ts ns : List ℕ) (X out : Bytes) → (writing ls J hs ts ns X out).number ≡ 3 → ⊥
+writing_no_3 ls J hs ts ns X out e = true≢false (sym (writing_gives ls J hs ts ns X out) ∙ ap (among of_day_writing) e)
+
 pub day_write_number : (κs : _) (a : _) (n : _) (e : _) → aez-day-write.Learnt κs a n e → among of_day_writing n ≡ true
 day_write_number κs a n e p =
     ap (among of_day_writing) p.0
@@ -214,6 +217,9 @@ clearing_gives B size dropped = by_length (ltb (length B) size)
     by_length true = refl
     by_length false = by_day (read_day (take size B))
 
+pub clearing_no_3 : (B : Bytes) (size : ℕ) (dropped : List ℕ) → (clearing B size dropped).number ≡ 3 → ⊥
+clearing_no_3 B size dropped e = true≢false (sym (clearing_gives B size dropped) ∙ ap (among of_day_clearing) e)
+
 pub day_clear_number : (κs : _) (a : _) (n : _) (e : _) → aez-day-clear.Learnt κs a n e → among of_day_clearing n ≡ true
 day_clear_number κs a n e p = ap (among of_day_clearing) p.0 ∙ clearing_gives a.0.now a.1.0 a.1.1.0.now
 
@@ -240,6 +246,9 @@ appending_gives B size number header stretch sealed = by_length (ltb (length B) 
     by_length : (b : Bool) → Gives of_day_appending (if b then refused 9 B else append_in (read_day (take size B)) number header stretch sealed B)
     by_length true = refl
     by_length false = by_day (read_day (take size B))
+
+pub appending_no_3 : (B : Bytes) (size number : ℕ) (header : Bytes) (stretch : ℕ) (sealed : Bytes) → (appending B size number header stretch sealed).number ≡ 3 → ⊥
+appending_no_3 B size number header stretch sealed e = true≢false (sym (appending_gives B size number header stretch sealed) ∙ ap (among of_day_appending) e)
 
 pub day_append_number : (κs : _) (a : _) (n : _) (e : _) → aez-day-append.Learnt κs a n e → among of_day_appending n ≡ true
 day_append_number κs a n e p =

@@ -15,16 +15,16 @@ use Rattle.paper.specs.Strings.{Bytes, Below}
 use Rattle.paper.specs.Document01.{reading, Outcome, refused}
 use Rattle.paper.specs.DayFile.{Day, write_day, longest_file, header_fits, read_day}
 use Rattle.paper.specs.DayEdits.{grown, append_fits, append_in, appending}
-use Rattle.laws.proofs.Digits.{below_take}
+use Rattle.laws.proofs.Digits.{below_of, below_take}
 use Rattle.laws.proofs.DayReading.{read_write}
 use Rattle.laws.proofs.DayGrown.{grown_long}
 use Rattle.header.specs.declared.BadEntry.{BadEntry}
 use Rattle.header.specs.Places.{read_as}
 use Rattle.header.proofs.Fits.{reads_fits, bad_fits}
 use Rattle.laws.specs.Placing.{placed}
-use Rattle.std.specs.Prelude.{None}
-use Rattle.day.specs.Checks.{checked_as}
-use Rattle.day_place.proofs.Held.{Counted}
+use Rattle.std.proofs.Common.{Some, None, Fits, w8, slice_index_or}
+use Rattle.day.specs.Checks.{checked_as, checked_day}
+use Rattle.day_place.proofs.Held.{Counted, counted}
 use Rattle.day_grow.specs.Grown.{Ready, grown_file}
 use Rattle.day_append.specs.Appended.{capped, taken}
 
@@ -44,6 +44,25 @@ pub record Asked : Type 0 where
   pub records : ℕ
   pub first : ℕ
   pub counted : Counted (take size buffer) headers records first
+
+-- by what the check of the file says
+abbrev pub asked : (buffer : Bytes) (size number : ℕ) (header : Bytes) (stretch : ℕ) (sealed : Bytes) (headers records first : ℕ) → ((i : ℕ) → Fits w8 (slice_index_or buffer i 0))
+    → size ≤ length buffer → Some (checked_day headers records first) ≡ checked_as (read_day (take size buffer)) → Asked
+asked buffer size number header stretch sealed headers records first low inside told =
+    record {
+      buffer = buffer;
+      low = below_of 256 buffer (λ i p. omega (arith, low i));
+      size = size;
+      inside = inside;
+      number = number;
+      header = header;
+      stretch = stretch;
+      sealed = sealed;
+      headers = headers;
+      records = records;
+      first = first;
+      counted = counted (take size buffer) headers records first told;
+    }
 
 -- ---- Whether it fits the layout
 

@@ -3,10 +3,12 @@
 
 ghost use Rattle.std.specs.Prelude.{◌≡◌, ◌+◌, ◌≤◌, length};
 ghost use Rattle.paper.specs.DayEdits.{append_fits, appending};
-ghost use Rattle.answer.specs.Outcomes.{outcome};
+ghost use Rattle.answer.specs.Outcomes.{outcome_in};
 ghost use Rattle.day_append.specs.Appended.{capped, taken};
 
-use answer::Answer;
+use answer::Refusal;
+
+const LONGEST_FILE: usize = 65536;
 
 // Whether an append is within the layout, where the file has so many headers.
 fn fits(headers: usize, number: u64, header: &[u8], stretch: u64) -> bool
@@ -40,54 +42,36 @@ pub fn append(
     header: &[u8],
     stretch: u64,
     sealed: &[u8],
-) -> Answer
-    ensures { outcome result buffer.new ≡ appending buffer.old size number header.now stretch sealed.now }
+) -> Result<usize, Refusal>
+    ensures { outcome_in result buffer.new ≡ appending buffer.old size number header.now stretch sealed.now }
 {
     if (buffer.len() as u64) < size {
-        return Answer {
-            number: 9,
-            length: 0,
-        };
+        return Err(Refusal::NoRecord);
     }
     let end = size as usize;
     let Some(day) = day::check(&buffer[..end]) else {
-        return Answer {
-            number: 9,
-            length: 0,
-        };
+        return Err(Refusal::NoRecord);
     };
-    if fits(day.headers, number, header, stretch) {
-        let n = grown_size(end, day.headers, number, header, sealed);
-        if 65536 < n {
-            return Answer {
-                number: 6,
-                length: 0,
-            };
-        }
-        if buffer.len() < n {
-            return Answer {
-                number: 6,
-                length: 0,
-            };
-        }
-        day_grow::put_grown(
-            buffer,
-            end,
-            day.headers,
-            day.records,
-            day.first,
-            number as usize,
-            header,
-            stretch,
-            sealed,
-        );
-        return Answer {
-            number: 0,
-            length: n,
-        };
+    if !fits(day.headers, number, header, stretch) {
+        return Err(Refusal::NoRecord);
     }
-    Answer {
-        number: 9,
-        length: 0,
+    let n = grown_size(end, day.headers, number, header, sealed);
+    if LONGEST_FILE < n {
+        return Err(Refusal::NoRoom);
     }
+    if buffer.len() < n {
+        return Err(Refusal::NoRoom);
+    }
+    day_grow::put_grown(
+        buffer,
+        end,
+        day.headers,
+        day.records,
+        day.first,
+        number as usize,
+        header,
+        stretch,
+        sealed,
+    );
+    Ok(n)
 }

@@ -3,9 +3,9 @@
 
 ghost use Rattle.std.specs.Prelude.{◌≡◌};
 ghost use Rattle.paper.specs.DayEdits.{rising_from, clearing};
-ghost use Rattle.answer.specs.Outcomes.{outcome};
+ghost use Rattle.answer.specs.Outcomes.{outcome_in};
 
-use answer::Answer;
+use answer::Refusal;
 
 // Whether a list is strictly rising and each number below the count of records.
 fn rising(dropped: &[u64], records: usize) -> bool
@@ -22,31 +22,18 @@ fn rising(dropped: &[u64], records: usize) -> bool
 }
 
 // Clearing: 9, then 17 for a list that is not strictly rising or names a record that is absent. Nothing is written before the answer is settled.
-pub fn clear(buffer: &mut [u8], size: u64, dropped: &[u64]) -> Answer
-    ensures { outcome result buffer.new ≡ clearing buffer.old size dropped.now }
+pub fn clear(buffer: &mut [u8], size: u64, dropped: &[u64]) -> Result<usize, Refusal>
+    ensures { outcome_in result buffer.new ≡ clearing buffer.old size dropped.now }
 {
     if (buffer.len() as u64) < size {
-        return Answer {
-            number: 9,
-            length: 0,
-        };
+        return Err(Refusal::NoRecord);
     }
     let end = size as usize;
     let Some(day) = day::check(&buffer[..end]) else {
-        return Answer {
-            number: 9,
-            length: 0,
-        };
+        return Err(Refusal::NoRecord);
     };
-    if rising(dropped, day.records) {
-        let n = day_pack::put_cleared(buffer, end, day.headers, day.records, day.first, dropped);
-        return Answer {
-            number: 0,
-            length: n,
-        };
+    if !rising(dropped, day.records) {
+        return Err(Refusal::BadList);
     }
-    Answer {
-        number: 17,
-        length: 0,
-    }
+    Ok(day_pack::put_cleared(buffer, end, day.headers, day.records, day.first, dropped))
 }

@@ -8,9 +8,10 @@ use native.Mathlib.Omega.{arith}
 use borrow.Author.Tests.{lt-ltb, le-ltb}
 use lib.Dec.{eqb, ltb}
 use lib.ListN.{length}
-use Rattle.std.specs.Prelude.{if◌then◌else◌}
+use Rattle.std.specs.Prelude.{Ok, Err, if◌then◌else◌}
 use Rattle.paper.specs.Strings.{Bytes}
 use Rattle.paper.specs.DayFile.{Record, Day, write_day, longest_file, present, headers_of, records_of, day_of, day_from}
+use Rattle.answer.specs.declared.Refusal.TheVariants.{TooLong, NoRoom, NoRecord}
 use Rattle.laws.proofs.Sealing.{and_true}
 use Rattle.laws.proofs.DayWritten.{first_place_lem, day_long}
 use Rattle.laws.proofs.DayLists.{HeadersListed, headers_listed_lem, RecordsListed, records_listed_lem}
@@ -90,22 +91,23 @@ abbrev pub Sized : ℕ → ℕ → Type 0
 Sized r size = (r ≤ 65536 → r ≡ size) × (65536 < r → 65536 < size)
 
 module _ (o : Option Day) (room : ℕ) where
-  pub settled_9 : o ≡ none → 9 ≡ settled_for o room
+  pub settled_9 : o ≡ none → Err NoRecord ≡ settled_for o room
   settled_9 e = sym (ap (λ (x : Option Day). settled_for x room) e)
 
   module _ (day : Day) (is : o ≡ some day) (r : ℕ) (sized : Sized r (length (write_day day))) where
-    by_tests : (a b : Bool) → ltb longest_file (length (write_day day)) ≡ a → ltb room (length (write_day day)) ≡ b → (if a then 4 else if b then 6 else 0) ≡ settled_for o room
+    by_tests : (a b : Bool) → ltb longest_file (length (write_day day)) ≡ a → ltb room (length (write_day day)) ≡ b
+        → (if a then Err TooLong else if b then Err NoRoom else Ok (length (write_day day))) ≡ settled_for o room
     by_tests a b p q =
-        (λ i. if sym p i then 4 else if sym q i then 6 else 0) ∙ sym (ap (λ (x : Option Day). settled_for x room) is)
+        (λ i. if sym p i then Err TooLong else if sym q i then Err NoRoom else Ok (length (write_day day))) ∙ sym (ap (λ (x : Option Day). settled_for x room) is)
 
-    pub settled_4 : 65536 < r → 4 ≡ settled_for o room
+    pub settled_4 : 65536 < r → Err TooLong ≡ settled_for o room
     settled_4 p = by_tests true (ltb room (length (write_day day))) (lt-ltb longest_file (length (write_day day)) (sized.1 p)) refl
 
     short : r ≤ 65536 → ltb longest_file (length (write_day day)) ≡ false
     short p = le-ltb longest_file (length (write_day day)) (omega (arith, sized.0 p))
 
-    pub settled_6 : r ≤ 65536 → room < r → 6 ≡ settled_for o room
+    pub settled_6 : r ≤ 65536 → room < r → Err NoRoom ≡ settled_for o room
     settled_6 p q = by_tests false true (short p) (lt-ltb room (length (write_day day)) (omega (arith, sized.0 p)))
 
-    pub settled_0 : r ≤ 65536 → r ≤ room → 0 ≡ settled_for o room
-    settled_0 p q = by_tests false false (short p) (le-ltb room (length (write_day day)) (omega (arith, sized.0 p)))
+    pub settled_0 : r ≤ 65536 → r ≤ room → Ok r ≡ settled_for o room
+    settled_0 p q = ap Ok (sized.0 p) ∙ by_tests false false (short p) (le-ltb room (length (write_day day)) (omega (arith, sized.0 p)))

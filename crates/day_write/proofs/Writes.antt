@@ -5,23 +5,26 @@ use mathlib.Core.Option.{Option, none, some}
 use mathlib.Core.Path.{◌≡◌, refl, ap, sym, subst, ◌∙◌}
 use Prim.Native.Nat.{ℕ, ◌+◌, ◌*◌, ◌≤◌}
 use native.Mathlib.Omega.{arith}
-use borrow.Author.Tests.{leb-true, leb-false, ltb-false, le-ltb}
+use borrow.Author.Tests.{leb-true, ltb-false, le-ltb}
 use lib.Dec.{leb, ltb}
 use lib.ListN.{length, get_or, take, drop}
 use lib.Seq.{length-take-le}
-use Rattle.std.specs.Prelude.{if◌then◌else◌}
+use Rattle.std.specs.Prelude.{Result, Ok, Err, if◌then◌else◌}
 use Rattle.paper.specs.Strings.{Bytes, digits}
 use Rattle.paper.specs.Document01.{refused, done, write_strings}
 use Rattle.paper.specs.DayFile.{Record, Day, write_record, write_records, first_place, places_from, write_places, write_index, write_day, longest_file, present, record_fits, headers_of, in_front_of, records_of, day_from, write_as, writing}
 use Rattle.laws.proofs.BitStrings.{length_digits}
 use Rattle.laws.proofs.DayWritten.{record_long, records_long, first_place_lem, day_then, places_many, places_long}
 use Rattle.laws.proofs.DayLists.{headers_listed_lem, records_listed_lem}
-use Rattle.answer.specs.Outcomes.{outcome}
+use Rattle.answer.specs.declared.Refusal.{Refusal}
+use Rattle.answer.specs.declared.Refusal.TheVariants.{TooLong, NoRoom}
+use Rattle.answer.specs.Outcomes.{number_in, size_in, outcome_in}
+use Rattle.answer.proofs.Refusals.{refuses}
 use Rattle.laws.specs.Placing.{placed}
 use Rattle.day_fit.specs.Fits.{records_right}
 use Rattle.day_put.specs.Written.{headers_written, records_written, total, places_by}
 use Rattle.day_write.specs.Settled.{size_of, settled_for}
-use Rattle.day_write.proofs.Settles.{Handed, unheaded, unrecorded, handed, Sized}
+use Rattle.day_write.proofs.Settles.{Handed, unheaded, unrecorded, handed}
 use Rattle.day_put.proofs.Puts.{put_none, put_more, put_all}
 
 -- ---- The places by the lengths
@@ -58,49 +61,51 @@ module _ (ls : List ℕ) (J : Bytes) (hs ts ns : List ℕ) (X : Bytes) where
 
   -- ---- A refusal
 
-  pub write_refused : (n : ℕ) (out : Bytes) → n ≡ settled_for day_from_lem (length out) → (n ≡ 0 → ⊥) → refused n out ≡ writing ls J hs ts ns X out
+  pub write_refused : (r : Refusal) (out : Bytes) → Err r ≡ settled_for day_from_lem (length out) → outcome_in (Err r) out ≡ writing ls J hs ts ns X out
   unfolding writing write_as
-  write_refused n out e other = go day_from_lem e
+  write_refused r out e = go day_from_lem e
     where
-      by : (day : Day) (a b : Bool) → n ≡ (if a then 4 else if b then 6 else 0)
-          → refused n out ≡ (if a then refused 4 out else if b then refused 6 out else done (length (write_day day)) (write_day day) out)
-      by day true b e = ap (λ (k : ℕ). refused k out) e
-      by day false true e = ap (λ (k : ℕ). refused k out) e
-      by day false false e = absurd (other e)
+      by : (day : Day) (a b : Bool) → Err r ≡ (if a then Err TooLong else if b then Err NoRoom else Ok (length (write_day day)))
+          → outcome_in (Err r) out ≡ (if a then refused 4 out else if b then refused 6 out else done (length (write_day day)) (write_day day) out)
+      by day true b e = ap (λ (x : Result ℕ Refusal). outcome_in x out) e
+      by day false true e = ap (λ (x : Result ℕ Refusal). outcome_in x out) e
+      by day false false e = absurd (refuses r (ap number_in e))
 
-      go : (o : Option Day) → n ≡ settled_for o (length out) → refused n out ≡ write_as o out
-      go none e = ap (λ (k : ℕ). refused k out) e
+      go : (o : Option Day) → Err r ≡ settled_for o (length out) → outcome_in (Err r) out ≡ write_as o out
+      go none e = ap (λ (x : Result ℕ Refusal). outcome_in x out) e
       go (some day) e = by day (ltb longest_file (length (write_day day))) (ltb (length out) (length (write_day day))) e
 
   -- ---- No refusal
 
-  -- the lists are within the layout, and their file is short enough and has room
-  pub record Accepted (room : ℕ) : Type 0 where
+  -- the lists are within the layout, and their file of n bytes is short enough and has room
+  pub record Accepted (n room : ℕ) : Type 0 where
     pub headed : present (headers_of ls J) ≡ true
     pub recorded : records_right (length ls) hs ts ns X ≡ true
     pub all : Handed ls J hs ts ns X
+    pub is : n ≡ length (write_day all.day)
     pub short : size_of (length ls) (length J) (length ns) (length X) ≤ 65536
     pub has_room : size_of (length ls) (length J) (length ns) (length X) ≤ room
 
-  pub accepted : (n room : ℕ) → n ≡ settled_for day_from_lem room → n ≡ 0 → Accepted room
-  accepted n room e z = go (present (headers_of ls J)) refl (records_right (length ls) hs ts ns X) refl
+  pub accepted : (n room : ℕ) → Ok n ≡ settled_for day_from_lem room → Accepted n room
+  accepted n room e = go (present (headers_of ls J)) refl (records_right (length ls) hs ts ns X) refl
     where
-      never : day_from_lem ≡ none → Accepted room
-      never q = absurd (omega (arith, sym z ∙ e ∙ ap (λ (o : Option Day). settled_for o room) q))
+      never : day_from_lem ≡ none → Accepted n room
+      never q = absurd (omega (arith, ap number_in (e ∙ ap (λ (o : Option Day). settled_for o room) q)))
 
-      fits : (day : Day) (a b : Bool) → ltb longest_file (length (write_day day)) ≡ a → ltb room (length (write_day day)) ≡ b → ◌≡◌ {A = ℕ} (if a then 4 else if b then 6 else 0) 0
-          → (length (write_day day) ≤ 65536) × (length (write_day day) ≤ room)
-      fits day true b p q w = absurd (omega (arith, w))
-      fits day false true p q w = absurd (omega (arith, w))
-      fits day false false p q w = (ltb-false longest_file (length (write_day day)) p, ltb-false room (length (write_day day)) q)
+      fits : (day : Day) (a b : Bool) → ltb longest_file (length (write_day day)) ≡ a → ltb room (length (write_day day)) ≡ b
+          → Ok n ≡ (if a then Err TooLong else if b then Err NoRoom else Ok (length (write_day day)))
+          → (n ≡ length (write_day day)) × ((length (write_day day) ≤ 65536) × (length (write_day day) ≤ room))
+      fits day true b p q w = absurd (omega (arith, ap number_in w))
+      fits day false true p q w = absurd (omega (arith, ap number_in w))
+      fits day false false p q w = (ap size_in w, (ltb-false longest_file (length (write_day day)) p, ltb-false room (length (write_day day)) q))
 
-      go : (a : Bool) → present (headers_of ls J) ≡ a → (b : Bool) → records_right (length ls) hs ts ns X ≡ b → Accepted room
+      go : (a : Bool) → present (headers_of ls J) ≡ a → (b : Bool) → records_right (length ls) hs ts ns X ≡ b → Accepted n room
       go false p b q = never (unheaded ls J hs ts ns X p)
       go true p false q = never (unrecorded ls J hs ts ns X p q)
       go true p true q =
           let h = handed ls J hs ts ns X p q in
-          let both = fits h.day (ltb longest_file (length (write_day h.day))) (ltb room (length (write_day h.day))) refl refl (sym (ap (λ (o : Option Day). settled_for o room) h.is) ∙ sym e ∙ z) in
-          record { headed = p; recorded = q; all = h; short = omega (arith, both.0, h.size); has_room = omega (arith, both.1, h.size) }
+          let all = fits h.day (ltb longest_file (length (write_day h.day))) (ltb room (length (write_day h.day))) refl refl (e ∙ ap (λ (o : Option Day). settled_for o room) h.is) in
+          record { headed = p; recorded = q; all = h; is = all.0; short = omega (arith, all.1.0, h.size); has_room = omega (arith, all.1.1, h.size) }
 
   module _ (h : Handed ls J hs ts ns X) where
     abbrev head_bytes : Bytes
@@ -168,19 +173,13 @@ module _ (ls : List ℕ) (J : Bytes) (hs ts ns : List ℕ) (X : Bytes) where
           let c6 = put_more places [] o6 (index + 4 + length places) c5 refl p6 refl (omega (arith, room, ended, heads_long, indexed, records_long_here, places_size)) k6 in
           (put_all c6 refl).1 ∙ ap (λ (w : Bytes). placed 0 w out) (parts (end + 4) first_at)
 
-      pub wrote : size_of (length ls) (length J) (length ns) (length X) ≤ 65536 → (n size : ℕ) → n ≡ 0 → Sized size (size_of (length ls) (length J) (length ns) (length X))
-          → outcome (record { number = n; length = size }) o6 ≡ writing ls J hs ts ns X out
+      pub wrote : (n : ℕ) → n ≡ length (write_day h.day) → size_of (length ls) (length J) (length ns) (length X) ≤ 65536 → outcome_in (Ok n) o6 ≡ writing ls J hs ts ns X out
       unfolding writing write_as
-      wrote short n size z sized =
+      wrote n is short =
           let file = write_day h.day in
-          let is : size ≡ length file = go (leb size 65536) refl ∙ sym h.size in
           let start : 0 + length file ≡ length file = omega arith in
           let last : o6 ≡ file ++ drop (length file) out = all_put ∙ ap (λ (k : ℕ). file ++ drop k out) start in
-          (λ i. record { number = z i; size = is i; output = last i })
+          (λ i. record { number = 0; size = is i; output = last i })
           ∙ sym
           (ap (λ (o : Option Day). write_as o out) h.is
           ∙ (λ i. if le-ltb longest_file (length file) (omega (arith, h.size)) i then refused 4 out else if le-ltb (length out) (length file) (omega (arith, h.size)) i then refused 6 out else done (length file) file out))
-        where
-          go : (b : Bool) → leb size 65536 ≡ b → size ≡ size_of (length ls) (length J) (length ns) (length X)
-          go true e = sized.0 (leb-true size 65536 e)
-          go false e = absurd (omega (arith, sized.1 (leb-false size 65536 e)))

@@ -3,10 +3,10 @@
 
 ghost use Rattle.std.specs.Prelude.{◌≡◌, ◌<◌, ◌≤◌};
 ghost use Rattle.paper.specs.DayFile.{headers_of, day_from, writing};
-ghost use Rattle.answer.specs.Outcomes.{outcome};
+ghost use Rattle.answer.specs.Outcomes.{outcome_in};
 ghost use Rattle.day_write.specs.Settled.{size_of, settled_for};
 
-use answer::Answer;
+use answer::Refusal;
 
 // The length of the file of so many headers, of so many bytes, and so many records, of so many sealed bytes; 65,537 for all that is longer.
 fn size(headers: usize, joined: usize, records: usize, sealed: usize) -> usize
@@ -19,7 +19,7 @@ fn size(headers: usize, joined: usize, records: usize, sealed: usize) -> usize
     }
 }
 
-// What the writer answers for a room of so many bytes: 9, then 4, then 6, else 0.
+// What the writer answers for a room of so many bytes: 9, then 4, then 6, else the file's length.
 fn settled(
     lengths: &[u64],
     headers: &[u8],
@@ -28,22 +28,23 @@ fn settled(
     sizes: &[u64],
     sealed: &[u8],
     room: usize,
-) -> u32
+) -> Result<usize, Refusal>
     ensures { result ≡ settled_for (day_from (headers_of lengths.now headers.now) numbers.now stretches.now sizes.now sealed.now) room }
 {
-    if day_fit::headers_fit(lengths, headers) {
-        if day_fit::records_fit(lengths.len(), numbers, stretches, sizes, sealed) {
-            let n = size(lengths.len(), headers.len(), sizes.len(), sealed.len());
-            if 65536 < n {
-                return 4;
-            }
-            if room < n {
-                return 6;
-            }
-            return 0;
-        }
+    if !day_fit::headers_fit(lengths, headers) {
+        return Err(Refusal::NoRecord);
     }
-    9
+    if !day_fit::records_fit(lengths.len(), numbers, stretches, sizes, sealed) {
+        return Err(Refusal::NoRecord);
+    }
+    let n = size(lengths.len(), headers.len(), sizes.len(), sealed.len());
+    if 65536 < n {
+        return Err(Refusal::TooLong);
+    }
+    if room < n {
+        return Err(Refusal::NoRoom);
+    }
+    Ok(n)
 }
 
 // A day file of the lists that a caller hands over. Nothing is written before the answer is settled.
@@ -55,10 +56,10 @@ pub fn write(
     sizes: &[u64],
     sealed: &[u8],
     out: &mut [u8],
-) -> Answer
-    ensures { outcome result out.new ≡ writing lengths.now headers.now numbers.now stretches.now sizes.now sealed.now out.old }
+) -> Result<usize, Refusal>
+    ensures { outcome_in result out.new ≡ writing lengths.now headers.now numbers.now stretches.now sizes.now sealed.now out.old }
 {
-    let number = settled(
+    let length = settled(
         lengths,
         headers,
         numbers,
@@ -66,10 +67,7 @@ pub fn write(
         sizes,
         sealed,
         out.len(),
-    );
-    if number != 0 {
-        return Answer { number, length: 0 };
-    }
+    )?;
     numbers::put::<4>(out, 0, lengths.len());
     let end = day_put::put_headers(lengths, headers, out, 4);
     numbers::put::<4>(out, end, sizes.len());
@@ -77,6 +75,5 @@ pub fn write(
     let index = day_put::put_records(lengths.len(), numbers, stretches, sizes, sealed, out, first);
     numbers::put::<4>(out, index, sizes.len());
     day_put::put_places(sizes, first, out, index + 4);
-    let length = size(lengths.len(), headers.len(), sizes.len(), sealed.len());
-    Answer { number, length }
+    Ok(length)
 }
