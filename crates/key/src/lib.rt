@@ -5,13 +5,14 @@ ghost use Rattle.std.specs.Prelude.{◌≡◌, ◌-◌, ◌*◌, ◌≤◌};
 ghost use Rattle.paper.specs.Section7.{◌·◌};
 ghost use Rattle.columns.specs.Columns.{columns_of};
 ghost use Rattle.multiples.specs.Eight.{multiples};
+ghost use Rattle.pairs.specs.Meaning.{first};
 ghost use Rattle.tbc.specs.Meaning.{base_of};
 
 mod of_bytes;
 
 use columns::Columns;
 pub use of_bytes::key_of;
-use pairs::Pair;
+use pairs::{Pair, Row};
 use tbc::Base;
 
 // The key: the blocks I, J and L, and the multiples of them that are kept, as columns. Each kept block is its multiple, as the ghost fields
@@ -75,10 +76,11 @@ impl Key {
     // Lines 408 and 409: s·(8·J), which is (8s)·J, for row s + 2. It is kept for s below 8. From there on it is put together from what is kept
     // for the rest of s, three times doubled, and for its three low bits.
     pub fn row_mask(self, p: Pair) -> Columns
-        requires { (3 ≤ p.1) × (p.1 ≤ 65) }
-        ensures { result ≡ columns_of (((p.1 - 2) * 8) · (blocks self).J) }
+        requires { (3 ≤ first p.row) × (first p.row ≤ 65) }
+        ensures { result ≡ columns_of (((first p.row - 2) * 8) · (blocks self).J) }
     {
-        let s = p.1 - 2;
+        let Row::Is(row) = p.row else { unreachable!() };
+        let s = row - 2;
         if s < 8 {
             multiples::multiple(&self.rows, s)
         } else {

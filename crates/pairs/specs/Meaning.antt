@@ -1,21 +1,38 @@
 -- What a pair of `pairs` stands for in Figure 6, and the pairs of 01's table.
-use Rattle.std.specs.Prelude.{Bool, true, false, List, [], ◌∷◌, map, ℕ, zero, suc, ◌≤◌, if◌then◌else◌}
+use Rattle.std.specs.Prelude.{List, [], ◌∷◌, map, ℕ, zero, suc, ◌+◌, ◌≤◌}
 use Rattle.paper.specs.Figure6.{Row, minus1, row}
 use Rattle.paper.specs.Document01.{Use, a, aᵢ, aaᵢ, x, y, xx, yy, u, v, uu, vv, tiny, tiny_last, prf, hash, indices}
 use Rattle.pairs.specs.declared.Pair.{Pair}
+use Rattle.pairs.specs.declared.Row.{Row as First}
+use Rattle.pairs.specs.declared.Row.TheVariants.{MinusOne, Is}
 
--- a pair of indices, (-1, second) being minus with 1
-abbrev pub pair : Bool → ℕ → ℕ → Pair
-pair minus first second = record { 0 = minus; 1 = first; 2 = second }
+-- a pair of indices
+abbrev pub pair : First → ℕ → Pair
+pair r i = record { row = r; number = i }
+
+-- the number of a first index; -1 has none, and 0 stands for it where a contract asks for a number
+abbrev pub first : First → ℕ
+first MinusOne = 0
+first (Is j) = j
+
+-- the first index that is s rows on; -1 stays
+abbrev pub rows_on : First → ℕ → First
+rows_on MinusOne s = MinusOne
+rows_on (Is j) s = Is (j + s)
+
+-- the row of Figure 6 that a first index names
+abbrev pub named_row : First → Row
+named_row MinusOne = minus1
+named_row (Is j) = row j
 
 -- the first index of a pair
 abbrev pub row_of : Pair → Row
-row_of p = if p.0 then minus1 else row p.1
+row_of p = named_row p.row
 
 -- the pair of two indices
 abbrev pub pair_of : Row → ℕ → Pair
-pair_of minus1 i = pair true 1 i
-pair_of (row j) i = pair false j i
+pair_of minus1 i = pair MinusOne i
+pair_of (row j) i = pair (Is j) i
 
 -- the pair of a use, by 01's table
 abbrev pub named : Use → Pair

@@ -2,12 +2,12 @@
 // sixteen at a time. m is everywhere 0·J to 7·J, and keys the keys of a group.
 #![tactic(auto)]
 
-ghost use Rattle.std.specs.Prelude.{false, ◌++◌, ◌≡◌, ◌+◌, ◌-◌, ◌*◌, ◌/◌, ◌<◌, ◌≤◌, length};
+ghost use Rattle.std.specs.Prelude.{◌++◌, ◌≡◌, ◌+◌, ◌-◌, ◌*◌, ◌/◌, ◌<◌, ◌≤◌, length};
 ghost use Rattle.paper.specs.Strings.{◌⊕◌, join};
 ghost use Rattle.paper.specs.Section7.{two_to};
 ghost use Rattle.paper.specs.Figure6.{row, k0, k1, k2, E};
 ghost use Rattle.columns.specs.Columns.{columns_of, block_of};
-ghost use Rattle.pairs.specs.Meaning.{row_of, Plain};
+ghost use Rattle.pairs.specs.Meaning.{first, row_of, Plain};
 ghost use Rattle.tbc.specs.Meaning.{base, OfJ};
 ghost use Rattle.groups.specs.Groups.{each, entry, AES4s, key_for, EndsInZero, Holds};
 ghost use Rattle.pass.specs.Pairs.{first_x, first_pair, second_y, second_pair, summand, new_pair, pair_sum, paired, WholePairs, part_sum, part_paired, xors, taken, HoldsBeside, HoldsFor};
@@ -51,7 +51,7 @@ impl Place<'_> {
 
     // E(x) at the pair (i, b), p being that of row i, which is 1 or 2.
     fn e(&self, p: pairs::Pair, x: [u8; 16]) -> [u8; 16]
-        requires { (p.0 ≡ false) × (1 ≤ p.1) × (p.1 ≤ 2) }
+        requires { (1 ≤ first p.row) × (first p.row ≤ 2) }
         ensures { result ≡ E (base self.now.k) (row_of p) self.now.b x }
     {
         tbc::e_running(self.k, self.m, p.at(self.b), self.power, x)
@@ -60,8 +60,8 @@ impl Place<'_> {
 
 // a ⊕ E(x) at the pair p.
 pub fn added(k: tbc::Base, m: &[u32; 32], p: pairs::Pair, a: [u8; 16], x: [u8; 16]) -> [u8; 16]
-    requires { (Plain (row_of p) p.2) × OfJ k m.now }
-    ensures { result ≡ a ⊕ E (base k) (row_of p) p.2 x }
+    requires { (Plain (row_of p) p.number) × OfJ k m.now }
+    ensures { result ≡ a ⊕ E (base k) (row_of p) p.number x }
 {
     block::xor(a, tbc::e(k, m, p, x))
 }

@@ -39,10 +39,10 @@ module _ (k : Base) (m : List ℕ) (of : OfJ k m) where
       kept (base k).J m of (j % 8) (omega arith) ∙ ap (λ (n : ℕ). columns_of (n · (base k).J)) small
 
   -- lines 406 and 408, from what `running_mask` returns: (j mod 8)·J ⊕ 2^floor((j - 1) / 8)·L
-  pub running_is : (p : Pair) (power r : List ℕ) → Running k p power → r ≡ columns_of (block_of (four_at m (4 * (p.2 % 8))) ⊕ block_of power)
-      → r ≡ columns_of (running_mask k p.2)
+  pub running_is : (p : Pair) (power r : List ℕ) → Running k p power → r ≡ columns_of (block_of (four_at m (4 * (p.number % 8))) ⊕ block_of power)
+      → r ≡ columns_of (running_mask k p.number)
   running_is p power r h e =
-      sum_of (times_block (p.2 % 8) (base_bytes k).J) (two_to_block ((p.2 - 1) / 8) (base_bytes k).L) (kept (base k).J m of (p.2 % 8) (omega arith)) h.carried e
+      sum_of (times_block (p.number % 8) (base_bytes k).J) (two_to_block ((p.number - 1) / 8) (base_bytes k).L) (kept (base k).J m of (p.number % 8) (omega arith)) h.carried e
 
 -- AES under keys of which the first is the mask M: the mask is added, and the zero key with it
 pub with_mask : (Ks : List Bytes) (keys : List (List ℕ)) (mask : List ℕ) (M x r : Bytes) → Block M → Block x → mask ≡ columns_of M
@@ -61,8 +61,8 @@ module _ (k : Base) (m : List ℕ) (of : OfJ k m) (Ks : List Bytes) (keys : List
   pub under_read : (j : ℕ) → j ≤ 7 → mask ≡ four_at m (4 * (j % 8)) → r ≡ AES (zeros ∷ Ks) (x ⊕ j · (base k).J)
   under_read j h e = with_mask Ks keys mask (j · (base k).J) x r (times_block j (base_bytes k).J) q (e ∙ read k m of j h) f g
 
-  pub under_running : (p : Pair) (power : List ℕ) → Running k p power → mask ≡ columns_of (block_of (four_at m (4 * (p.2 % 8))) ⊕ block_of power)
-      → r ≡ AES (zeros ∷ Ks) (figure6.masked (base k) p.2 x)
+  pub under_running : (p : Pair) (power : List ℕ) → Running k p power → mask ≡ columns_of (block_of (four_at m (4 * (p.number % 8))) ⊕ block_of power)
+      → r ≡ AES (zeros ∷ Ks) (figure6.masked (base k) p.number x)
   under_running p power h e =
-      with_mask Ks keys mask (running_mask k p.2) x r (running_mask_block k p.2) q (running_is k m of p power mask h e) f g
-      ∙ ap (AES (zeros ∷ Ks)) (sym (⊕_assoc x ((p.2 % 8) · (base k).J) (two_to ((p.2 - 1) / 8) (base k).L)))
+      with_mask Ks keys mask (running_mask k p.number) x r (running_mask_block k p.number) q (running_is k m of p power mask h e) f g
+      ∙ ap (AES (zeros ∷ Ks)) (sym (⊕_assoc x ((p.number % 8) · (base k).J) (two_to ((p.number - 1) / 8) (base k).L)))

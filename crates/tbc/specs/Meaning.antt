@@ -1,10 +1,11 @@
 -- What the struct `Base` stands for in Figure 6, and what E takes beside it.
-use Rattle.std.specs.Prelude.{false, List, [], ◌∷◌, ◌≡◌, ℕ, ◌-◌, ◌/◌, ◌≤◌, replicate}
+use Rattle.std.specs.Prelude.{List, [], ◌∷◌, ◌≡◌, ℕ, ◌-◌, ◌/◌, ◌≤◌, replicate}
 use Rattle.paper.specs.Section7.{two_to}
 use Rattle.paper.specs.Figure6 as figure6
 use Rattle.columns.specs.Columns.{columns_of}
 use Rattle.sub_bytes.specs.Planes.{crossed, crossed_bytes}
 use Rattle.multiples.specs.Eight.{multiples}
+use Rattle.pairs.specs.Meaning.{first}
 use Rattle.pairs.specs.declared.Pair.{Pair}
 use Rattle.tbc.specs.declared.Base.{Base}
 
@@ -25,7 +26,6 @@ masked0 k mask = mask ∷ k.i ∷ k.j ∷ k.l ∷ replicate 4 0 ∷ []
 
 -- the pair whose second index counts up from 1 in a row from 1 on, and the power of L that goes with it
 pub record Running (k : Base) (p : Pair) (power : List ℕ) : Type 0 where
-  pub plus : p.0 ≡ false
-  pub counted : 1 ≤ p.1
-  pub from1 : 1 ≤ p.2
-  pub carried : power ≡ columns_of (two_to ((p.2 - 1) / 8) (base k).L)
+  pub counted : 1 ≤ first p.row
+  pub from1 : 1 ≤ p.number
+  pub carried : power ≡ columns_of (two_to ((p.number - 1) / 8) (base k).L)

@@ -8,11 +8,11 @@ ghost use Rattle.paper.specs.Section7.{◌·◌};
 ghost use Rattle.paper.specs.Figure6.{k1, k2, K10, E};
 ghost use Rattle.columns.specs.Columns.{columns_of, block_of};
 ghost use Rattle.aes.specs.Steps.{keys_of};
-ghost use Rattle.pairs.specs.Meaning.{row_of, Plain};
+ghost use Rattle.pairs.specs.Meaning.{row_of, first, Plain};
 ghost use Rattle.tbc.specs.Meaning.{base, base_of, OfJ, masked0, Running};
 
 use columns::Columns;
-use pairs::Pair;
+use pairs::{Pair, Row};
 
 // What loops take of a key from block to block: I, J and L as crossed words, by value, which AES takes for its keys. The multiples of J are
 // lent beside it.
@@ -87,35 +87,33 @@ fn keys10(k: Base, mask: Columns) -> [Columns; 11]
 // The keys of AES4 under which a block goes as E in row 0 takes its sum with `added`: line 405, with `added` in the mask. A caller that has
 // many blocks for one pair makes them once.
 pub fn keys_adding(k: Base, m: &[u32; 32], p: Pair, added: Columns) -> [Columns; 5]
-    requires { (p.2 ≤ 7) × OfJ k m.now }
-    ensures { result ≡ masked0 k (columns_of (block_of added ⊕ p.2 · (base k).J)) }
+    requires { (p.number ≤ 7) × OfJ k m.now }
+    ensures { result ≡ masked0 k (columns_of (block_of added ⊕ p.number · (base k).J)) }
 {
-    let multiple_of_j = multiples::multiple(m, p.2);
+    let multiple_of_j = multiples::multiple(m, p.number);
     keys0(k, columns::xor(added, multiple_of_j))
 }
 
 // E in rows -1 and 0: lines 404 and 405. m is 0·J to 7·J, of which the mask is one.
 pub fn e(k: Base, m: &[u32; 32], p: Pair, x: [u8; 16]) -> [u8; 16]
-    requires { (Plain (row_of p) p.2) × OfJ k m.now }
-    ensures { result ≡ E (base k) (row_of p) p.2 x }
+    requires { (Plain (row_of p) p.number) × OfJ k m.now }
+    ensures { result ≡ E (base k) (row_of p) p.number x }
 {
-    let of_j = multiples::multiple(m, p.2);
-    if p.0 {
-        aes::aes(&keys10(k, of_j), x)
-    } else {
-        aes::aes(&keys0(k, of_j), x)
+    let of_j = multiples::multiple(m, p.number);
+    match p.row {
+        Row::MinusOne => aes::aes(&keys10(k, of_j), x),
+        Row::Is(_) => aes::aes(&keys0(k, of_j), x),
     }
 }
 
 // E in rows 1 and 2, whose numbers count up: line 406. power is 2^floor((b - 1) / 8)·L for the second index b, which a loop carries along.
 pub fn e_running(k: Base, m: &[u32; 32], p: Pair, power: Columns, x: [u8; 16]) -> [u8; 16]
-    requires { (Running k p power) × (p.1 ≤ 2) × OfJ k m.now }
-    ensures { result ≡ E (base k) (row_of p) p.2 x }
+    requires { (Running k p power) × (first p.row ≤ 2) × OfJ k m.now }
+    ensures { result ≡ E (base k) (row_of p) p.number x }
 {
-    let mask = masks::running_mask(m, p.2, power);
-    if p.1 == 1 {
-        aes::aes(&keys1(k, mask), x)
-    } else {
-        aes::aes(&keys2(k, mask), x)
+    let mask = masks::running_mask(m, p.number, power);
+    match p.row {
+        Row::Is(1) => aes::aes(&keys1(k, mask), x),
+        _ => aes::aes(&keys2(k, mask), x),
     }
 }

@@ -2,13 +2,13 @@
 // m is everywhere 0·J to 7·J, taken out of the key once.
 #![tactic(auto)]
 
-ghost use Rattle.std.specs.Prelude.{false, ◌≡◌, ◌*◌, ◌≤◌, length};
+ghost use Rattle.std.specs.Prelude.{◌≡◌, ◌*◌, ◌≤◌, length};
 ghost use Rattle.paper.specs.Strings.{◌⊕◌};
 ghost use Rattle.paper.specs.Section7.{◌·◌};
-ghost use Rattle.paper.specs.Figure6.{E};
+ghost use Rattle.paper.specs.Figure6.{row, E};
 ghost use Rattle.paper.specs.Figure5.{tiny_index, encipher_tiny, decipher_tiny};
 ghost use Rattle.columns.specs.Columns.{columns_of};
-ghost use Rattle.pairs.specs.Meaning.{pair};
+ghost use Rattle.pairs.specs.Meaning.{pair_of};
 ghost use Rattle.tbc.specs.Meaning.{base, OfJ, masked0};
 ghost use Rattle.key.specs.Meaning.{blocks};
 ghost use Rattle.tiny.specs.OnBytes.{mark, last_bytes};
@@ -17,7 +17,7 @@ use columns::Columns;
 
 // Line 214: the index pair of the rounds for n bytes.
 fn pair_for(n: usize) -> pairs::Pair
-    ensures { result ≡ pair false 0 (tiny_index (8 * n)) }
+    ensures { result ≡ pair_of (row 0) (tiny_index (8 * n)) }
 {
     if 16 <= n {
         pairs::Pair::TINY

@@ -21,8 +21,8 @@ second_small Decipher = omega arith
 
 -- the pair p of those of a way
 module _ (way : Way) (i : EndPairs) (e : i ≡ end_pairs way) (p : EndPairs → Pair) where
-  pub plain_of : Plain (row_of (p (end_pairs way))) (p (end_pairs way)).2 → Plain (row_of (p i)) (p i).2
-  plain_of h = subst⁻¹ (λ (i : EndPairs). Plain (row_of (p i)) (p i).2) e h
+  pub plain_of : Plain (row_of (p (end_pairs way))) (p (end_pairs way)).number → Plain (row_of (p i)) (p i).number
+  plain_of h = subst⁻¹ (λ (i : EndPairs). Plain (row_of (p i)) (p i).number) e h
 
-  pub added_of : (K : Key) (r a X : Bytes) → r ≡ a ⊕ E K (row_of (p i)) (p i).2 X → r ≡ a ⊕ E K (row_of (p (end_pairs way))) (p (end_pairs way)).2 X
-  added_of K r a X f = f ∙ ap (λ (i : EndPairs). a ⊕ E K (row_of (p i)) (p i).2 X) e
+  pub added_of : (K : Key) (r a X : Bytes) → r ≡ a ⊕ E K (row_of (p i)) (p i).number X → r ≡ a ⊕ E K (row_of (p (end_pairs way))) (p (end_pairs way)).number X
+  added_of K r a X f = f ∙ ap (λ (i : EndPairs). a ⊕ E K (row_of (p i)) (p i).number X) e

@@ -12,5 +12,5 @@ use Rattle.tbc.proofs.keys_adding.Goals as goal
 pub returns : goal.returns
 returns c =
     let a = c.args in
-    let of_j = made (times_block a.p.2 (base_bytes a.k).J) (c.multiple-multiple_of_j.ensures ∙ read a.k a.m.now c.requires.1 a.p.2 c.requires.0) in
+    let of_j = made (times_block a.p.number (base_bytes a.k).J) (c.multiple-multiple_of_j.ensures ∙ read a.k a.m.now c.requires.1 a.p.number c.requires.0) in
     c.keys0.ensures ∙ ap (masked0 a.k) (c.xor.ensures ∙ ap (λ (M : Bytes). columns_of (block_of a.added ⊕ M)) of_j)

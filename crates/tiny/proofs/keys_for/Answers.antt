@@ -16,13 +16,13 @@ use Rattle.tiny.proofs.keys_for.Goals as goal
 
 pub keys_adding-requires : goal.keys_adding-requires
 keys_adding-requires c =
-    let number : c.pair_for-p.result.2 ≡ tiny_index (8 * c.args.n) = ap (λ (p : Pair). p.2) c.pair_for-p.ensures in
+    let number : c.pair_for-p.result.number ≡ tiny_index (8 * c.args.n) = ap (λ (p : Pair). p.number) c.pair_for-p.ensures in
     (subst⁻¹ (λ (j : ℕ). j ≤ 7) number (index_le (8 * c.args.n)), c.requires.1)
 
 pub returns : goal.returns
 returns c =
     let a = c.args in
-    let number : c.pair_for-p.result.2 ≡ tiny_index (8 * a.n) = ap (λ (p : Pair). p.2) c.pair_for-p.ensures in
+    let number : c.pair_for-p.result.number ≡ tiny_index (8 * a.n) = ap (λ (p : Pair). p.number) c.pair_for-p.ensures in
     let delta_block = array_bytes 16 _ _ c.well_formed.1.1.0 in
     let bit-block = mark_block a.n c.requires.0 in
     let fixed = made (⊕_block delta_block bit-block) (sum_of delta_block bit-block c.of_block.ensures c.mark.ensures c.xor-fixed.ensures) in

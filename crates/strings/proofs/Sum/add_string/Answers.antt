@@ -7,6 +7,7 @@ use Rattle.paper.specs.Figure6 as figure6
 use Rattle.laws.proofs.KeyBlocks.{times_block}
 use Rattle.columns.specs.Columns.{columns_of, block_of}
 use Rattle.columns.proofs.Conversions.{made}
+use Rattle.pairs.specs.Meaning.{first}
 use Rattle.pairs.specs.declared.Pair.{Pair}
 use Rattle.tbc.specs.Meaning.{base}
 use Rattle.key.specs.Meaning.{blocks}
@@ -28,7 +29,7 @@ returns-then-empty c =
     let t = a.t.now in
     let M = block_of c.row_mask-mask.result in
     let is_base = has_blocks a.k _ c.well_formed.1.0 a.b c.requires.0 in
-    let row : c.string.result.1 - 2 ≡ a.i = omega (arith, ap (λ (p : Pair). p.1) c.string.ensures) in
+    let row : first c.string.result.row - 2 ≡ a.i = omega (arith, ap (λ (p : Pair). first p.row) c.string.ensures) in
     let mask = made (times_block (a.i * 8) (key_bytes a.k _ c.well_formed.1.0).J) (c.row_mask-mask.ensures ∙ ap (λ (n : ℕ). columns_of ((n * 8) · K.J)) row) in
     let full =
     subst (λ (K : figure6.Key). so_far K c.add_full.new.self ≡ so_far K a.self.now ⊕ sum (length t / 16) (full_term K M t)) is_base c.add_full.ensures in
@@ -46,7 +47,7 @@ returns-else-not-whole c =
     let t = a.t.now in
     let M = block_of c.row_mask-mask.result in
     let is_base = has_blocks a.k _ c.well_formed.1.0 a.b c.requires.0 in
-    let row : c.string.result.1 - 2 ≡ a.i = omega (arith, ap (λ (p : Pair). p.1) c.string.ensures) in
+    let row : first c.string.result.row - 2 ≡ a.i = omega (arith, ap (λ (p : Pair). first p.row) c.string.ensures) in
     let mask = made (times_block (a.i * 8) (key_bytes a.k _ c.well_formed.1.0).J) (c.row_mask-mask.ensures ∙ ap (λ (n : ℕ). columns_of ((n * 8) · K.J)) row) in
     let full =
     subst (λ (K : figure6.Key). so_far K c.add_full.new.self ≡ so_far K a.self.now ⊕ sum (length t / 16) (full_term K M t)) is_base c.add_full.ensures in
