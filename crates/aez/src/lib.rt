@@ -155,18 +155,26 @@ pub fn aez_day_open(key: &[u8], file: &[u8], k: u64, out: &mut [u8], size: &mut 
     ensures { (result ≡ (opening_record key.now file.now k out.old).number) × (size.new ≡ (opening_record key.now file.now k out.old).size) × (out.new ≡ (opening_record key.now file.now k out.old).output) }
 {
     let answer = day_open::open(key, file, k as usize, out);
-    *size = answer.length as u64;
-    answer.number
+    *size = length_of(answer);
+    number_of(answer)
 }
 
 // Where the headers and the records of a day file stand.
 pub fn aez_day_list(file: &[u8], places: &mut [u64], headers: &mut u64, records: &mut u64) -> u32
     ensures { (result ≡ (listing file.now places.old).number) × (headers.new ≡ (listing file.now places.old).headers) × (records.new ≡ (listing file.now places.old).records) × (places.new ≡ (listing file.now places.old).places) }
 {
-    let listed = day_list::list(file, places);
-    *headers = listed.headers as u64;
-    *records = listed.records as u64;
-    listed.number
+    match day_list::list(file, places) {
+        Ok(listed) => {
+            *headers = listed.headers as u64;
+            *records = listed.records as u64;
+            0
+        }
+        Err(refusal) => {
+            *headers = 0;
+            *records = 0;
+            refusal.number()
+        }
+    }
 }
 
 // A pause: a text under a header, in exact microseconds.

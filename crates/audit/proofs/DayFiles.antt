@@ -19,7 +19,6 @@ use Rattle.laws.proofs.DayWritten.{RecordsFit, Layout}
 use Rattle.laws.proofs.DayReading.{write_read}
 use Rattle.laws.proofs.DayLists.{headers_listed_lem, records_listed_lem}
 use Rattle.answer.specs.Outcomes.{number_in, size_in, outcome, outcome_in, AnswerAt}
-use Rattle.answer.specs.declared.Answer.{Answer}
 use Rattle.answer.specs.declared.Refusal.{Refusal}
 use Rattle.answer.proofs.Refusals.{refuses}
 use Rattle.settle.specs.Settled.{Settled, settled_sealing}
@@ -36,8 +35,8 @@ use Rattle.audit.proofs.Demands.{Sealed, open_after_seal}
 abbrev pub Wrote : (ls : List ℕ) (J : Bytes) (hs ts ns : List ℕ) (X out : Bytes) (r : Result ℕ Refusal) (last : Bytes) → Type 0
 Wrote ls J hs ts ns X out r last = outcome_in r last ≡ writing ls J hs ts ns X out
 
-abbrev pub OpenedRecord : (key file : Bytes) (k : ℕ) (out : Bytes) (r : Answer) (last : Bytes) → Type 0
-OpenedRecord key file k out r last = outcome r last ≡ opening_record key file k out
+abbrev pub OpenedRecord : (key file : Bytes) (k : ℕ) (out : Bytes) (r : Result ℕ Refusal) (last : Bytes) → Type 0
+OpenedRecord key file k out r last = outcome_in r last ≡ opening_record key file k out
 
 -- they are the contracts that the checker made from the source
 pub write_promises : (κs : _) (a : _) (r : _) (e : _) → write-reads.Learnt κs a r e
@@ -116,8 +115,8 @@ module _ (ls : List ℕ) (J : Bytes) (hs ts ns : List ℕ) (X out : Bytes) (r : 
   pub open_after_write : (k : ℕ) (own : Record) → get_elem? handed_day.records k ≡ some own
       → (key M room : Bytes) (q : AnswerAt) (left : Bytes) → Below 256 key → Below 256 (header_of handed_day own) → Below 256 M
       → Sealed key (header_of handed_day own) own.stretch M room q left → q.number ≡ 0 → take q.length left ≡ own.sealed
-      → (buffer : Bytes) (s : Answer) (end : Bytes) → length M + own.stretch ≤ length buffer → OpenedRecord key (written r last) k buffer s end
-      → (s.number ≡ 0) × (s.length ≡ length M) × (end ≡ M ++ replicate own.stretch 0 ++ drop (length M + own.stretch) buffer)
+      → (buffer : Bytes) (s : Result ℕ Refusal) (end : Bytes) → length M + own.stretch ≤ length buffer → OpenedRecord key (written r last) k buffer s end
+      → (number_in s ≡ 0) × (size_in s ≡ length M) × (end ≡ M ++ replicate own.stretch 0 ++ drop (length M + own.stretch) buffer)
   unfolding opening_record open_in open_record
   open_after_write k own elem key M room q left key_low header_low text seal done-0 is buffer s end enough opened =
       let header = header_of handed_day own in
@@ -125,8 +124,8 @@ module _ (ls : List ℕ) (J : Bytes) (hs ts ns : List ℕ) (X out : Bytes) (r : 
       let passed = (sealed_passes key header t M room q left seal done-0).common in
       let fixed : Fixed key header passed.strings t =
       record { key_bytes = record { len = passed.key_long; low = key_low }; header_bytes = header_low; reads = passed.reads; short = passed.short } in
-      let by_day : outcome s end ≡ open_record key handed_day (some own) buffer =
+      let by_day : outcome_in s end ≡ open_record key handed_day (some own) buffer =
       opened ∙ ap (λ (o : Option Day). open_in key o k buffer) written_day ∙ ap (λ (o : Option Record). open_record key handed_day o buffer) elem in
       let o : OutcomeAt = opening key header t own.sealed buffer in
-      open_after_seal key header passed.strings t fixed M room text q left seal done-0 buffer (record { number = s.number; length = s.length; place = o.place }) end enough
+      open_after_seal key header passed.strings t fixed M room text q left seal done-0 buffer (record { number = number_in s; length = size_in s; place = o.place }) end enough
       ((λ i. record { number = (by_day i).number; place = o.place; size = (by_day i).size; output = (by_day i).output }) ∙ ap (λ (C : Bytes). opening key header t C buffer) (sym is))

@@ -18,7 +18,7 @@ use Rattle.paper.specs.Strings.{Bytes, tab}
 use Rattle.paper.specs.Section7.{◌·◌}
 use Rattle.paper.specs.Figure6 as figure6
 use Rattle.paper.specs.Document01.{Outcome, OutcomeAt}
-use Rattle.answer.specs.Outcomes.{number_in, place_in, outcome, outcome_in, outcome_at}
+use Rattle.answer.specs.Outcomes.{number_in, size_in, place_in, outcome, outcome_in, outcome_at}
 use Rattle.answer.specs.declared.Answer.{Answer}
 use Rattle.answer.specs.declared.Refusal.{Refusal}
 use Rattle.answer.proofs.Refusals.{one_answer, one_test}
@@ -30,7 +30,7 @@ use Rattle.paper.specs.DayFile.{before, read_records, Listing}
 use Rattle.day_steps.specs.declared.Entry.{Entry}
 use Rattle.day_steps.specs.Walks.{record_of, RecordStep, HeadersWalk}
 use Rattle.day_list.specs.declared.Listed.{Listed}
-use Rattle.day_list.specs.Lists.{listing_as}
+use Rattle.day_list.specs.Lists.{counts_in, listing_as}
 use Rattle.columns.specs.Columns.{columns_of}
 use Rattle.key.specs.declared.Key.{Key}
 use Rattle.key.specs.Meaning.{blocks, Kept}
@@ -199,7 +199,7 @@ no_place (Err NoPause) f = refl
 no_place (Err BadList) f = refl
 
 -- the same of a door whose contract has no place, since it answers no 3
-one_outcome_in : (z w : Result ℕ Refusal) (X Y : Bytes) (o : Outcome) → (o.number ≡ 3 → ⊥) → outcome_in z X ≡ o → outcome_in w Y ≡ o → (z ≡ w) × (X ≡ Y)
+pub one_outcome_in : (z w : Result ℕ Refusal) (X Y : Bytes) (o : Outcome) → (o.number ≡ 3 → ⊥) → outcome_in z X ≡ o → outcome_in w Y ≡ o → (z ≡ w) × (X ≡ Y)
 one_outcome_in z w X Y o f p q =
     let e : outcome_in z X ≡ outcome_in w Y = one p q in
     let zero = no_place z (λ t. f (sym (ap (λ (o : Outcome). o.number) p) ∙ t)) in
@@ -216,10 +216,18 @@ one_settled : (z w : Result (Unit {0}) Refusal) (s : Settled) → settled_by z �
 one_settled z w s p q = let e : settled_by z ≡ settled_by w = one p q in one_test z w (ap (λ (s : Settled). s.number) e) (ap (λ (s : Settled). s.at) e)
 
 -- the same of a listing
-one_listing : (z w : Listed) (X Y : List ℕ) (o : Listing) → listing_as z X ≡ o → listing_as w Y ≡ o → (z ≡ w) × (X ≡ Y)
+one_listing : (z w : Result Listed Refusal) (X Y : List ℕ) (o : Listing) → listing_as z X ≡ o → listing_as w Y ≡ o
+    → (number_in z ≡ number_in w) × (counts_in z ≡ counts_in w) × (X ≡ Y)
 one_listing z w X Y o p q =
     let e : listing_as z X ≡ listing_as w Y = one p q in
-    (ap (λ (o : Listing). record { number = o.number; headers = o.headers; records = o.records }) e, ap (λ (o : Listing). o.places) e)
+    (ap (λ (o : Listing). o.number) e, ap (λ (o : Listing). record { headers = o.headers; records = o.records }) e, ap (λ (o : Listing). o.places) e)
+
+-- a door that hands on what opening answers: its contract has no place, and tells the number and the length
+one_opened : (z w : Result ℕ Refusal) (X Y : Bytes) (o : Outcome) → outcome_in z X ≡ o → outcome_in w Y ≡ o
+    → (number_in z ≡ number_in w) × (size_in z ≡ size_in w) × (X ≡ Y)
+one_opened z w X Y o p q =
+    let e : outcome_in z X ≡ outcome_in w Y = one p q in
+    (ap (λ (o : Outcome). o.number) e, ap (λ (o : Outcome). o.size) e, ap (λ (o : Outcome). o.output) e)
 
 -- a step over a record and a walk over headers: what is read of the rest tells the two apart
 no_records : (headers : ℕ) (X : Bytes) → read_records headers 0 X ≡ some ([], X)
@@ -636,7 +644,8 @@ day_find_from_determined κs a z w e f p q = one p.0 q.0
 pub day_find_determined : (κs : _) (a : _) (z w : _) (e f : _) → day-find.Learnt κs a z e → day-find.Learnt κs a w f → z ≡ w
 day_find_determined κs a z w e f p q = one p.0 q.0
 
-pub day_list_determined : (κs : _) (a : _) (z w : _) (e f : _) → day-list.Learnt κs a z e → day-list.Learnt κs a w f → (z ≡ w) × (e.1.0.now ≡ f.1.0.now)
+pub day_list_determined : (κs : _) (a : _) (z w : _) (e f : _) → day-list.Learnt κs a z e → day-list.Learnt κs a w f
+    → (number_in z ≡ number_in w) × (counts_in z ≡ counts_in w) × (e.1.0.now ≡ f.1.0.now)
 day_list_determined κs a z w e f p q = one_listing z w e.1.0.now f.1.0.now _ p q
 
 pub day_marks_marks_determined : (κs : _) (a : _) (z w : _) (e f : _) → day-marks-marks.Learnt κs a z e → day-marks-marks.Learnt κs a w f → z ≡ w
@@ -645,8 +654,9 @@ day_marks_marks_determined κs a z w e f p q = one p q
 pub day_marks_find_determined : (κs : _) (a : _) (z w : _) (e f : _) → day-marks-find.Learnt κs a z e → day-marks-find.Learnt κs a w f → z ≡ w
 day_marks_find_determined κs a z w e f p q = one p.0 q.0
 
-pub day_open_determined : (κs : _) (a : _) (z w : _) (e f : _) → day-open.Learnt κs a z e → day-open.Learnt κs a w f → (z ≡ w) × (e.1.1.1.0.now ≡ f.1.1.1.0.now)
-day_open_determined κs a z w e f p q = one_outcome z w e.1.1.1.0.now f.1.1.1.0.now _ p q
+pub day_open_determined : (κs : _) (a : _) (z w : _) (e f : _) → day-open.Learnt κs a z e → day-open.Learnt κs a w f
+    → (number_in z ≡ number_in w) × (size_in z ≡ size_in w) × (e.1.1.1.0.now ≡ f.1.1.1.0.now)
+day_open_determined κs a z w e f p q = one_opened z w e.1.1.1.0.now f.1.1.1.0.now _ p q
 
 pub day_headers_fit_determined : (κs : _) (a : _) (z w : _) (e f : _) → day-headers-fit.Learnt κs a z e → day-headers-fit.Learnt κs a w f → z ≡ w
 day_headers_fit_determined κs a z w e f p q = one p q

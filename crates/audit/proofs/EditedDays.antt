@@ -24,7 +24,6 @@ use Rattle.laws.proofs.DayPlaces.{elem_drop, elem_fits}
 use Rattle.laws.proofs.DayCleared.{cleared_within, cleared_again, kept_record, kept_header}
 use Rattle.laws.proofs.DayGrown.{grown_within, grown_before, grown_last, same_headers}
 use Rattle.answer.specs.Outcomes.{number_in, size_in, outcome, outcome_in, AnswerAt}
-use Rattle.answer.specs.declared.Answer.{Answer}
 use Rattle.answer.specs.declared.Refusal.{Refusal}
 use Rattle.day_clear.proofs.clear.Reads as clear_reads
 use Rattle.day_append.proofs.append.Reads as append-reads
@@ -188,18 +187,18 @@ module _ (B : Bytes) (low : Below 256 B) (size : ℕ) (day : Day) (reads : read_
   -- what was appended, where a call of sealing made it under the header that it names, opens to its text
   pub open_after_append : (key M room : Bytes) (q : AnswerAt) (left : Bytes) → Below 256 key → Below 256 (header_of after new) → Below 256 M
       → Sealed key (header_of after new) stretch M room q left → q.number ≡ 0 → take q.length left ≡ sealed
-      → (buffer : Bytes) (s : Answer) (end : Bytes) → length M + stretch ≤ length buffer → OpenedRecord key (written r last) (length day.records) buffer s end
-      → (s.number ≡ 0) × (s.length ≡ length M) × (end ≡ M ++ replicate stretch 0 ++ drop (length M + stretch) buffer)
+      → (buffer : Bytes) (s : Result ℕ Refusal) (end : Bytes) → length M + stretch ≤ length buffer → OpenedRecord key (written r last) (length day.records) buffer s end
+      → (number_in s ≡ 0) × (size_in s ≡ length M) × (end ≡ M ++ replicate stretch 0 ++ drop (length M + stretch) buffer)
   unfolding open_record
   open_after_append key M room q left key_low header_low text seal done-0 made buffer s end enough opened =
       let h = header_of after new in
       let passed = (sealed_passes key h stretch M room q left seal done-0).common in
       let fixed : Fixed key h passed.strings stretch =
       record { key_bytes = record { len = passed.key_long; low = key_low }; header_bytes = header_low; reads = passed.reads; short = passed.short } in
-      let by_day : outcome s end ≡ open_record key after (some new) buffer =
+      let by_day : outcome_in s end ≡ open_record key after (some new) buffer =
       opened ∙ by_reading key (written r last) (length day.records) buffer after new grown_reads (grown_last number header stretch sealed day) in
       let o : OutcomeAt = opening key h stretch sealed buffer in
-      open_after_seal key h passed.strings stretch fixed M room text q left seal done-0 buffer (record { number = s.number; length = s.length; place = o.place }) end enough
+      open_after_seal key h passed.strings stretch fixed M room text q left seal done-0 buffer (record { number = number_in s; length = size_in s; place = o.place }) end enough
       ((λ i. record { number = (by_day i).number; place = o.place; size = (by_day i).size; output = (by_day i).output }) ∙ ap (λ (C : Bytes). opening key h stretch C buffer) (sym made))
 
 -- ---- When an append fits

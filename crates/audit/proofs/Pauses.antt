@@ -1,6 +1,6 @@
 -- PAUSES AND THE LEDGER (request E12), for the calls. What each returns and writes follows from its arguments alone, and is one of its numbers;
 -- one text never has two values under a comma locale and under en.
-use mathlib.Core.Bool.{Bool, true, false, not}
+use mathlib.Core.Bool.{true≢false, Bool, true, false, not}
 use mathlib.Core.List.{List, [], ◌∷◌}
 use mathlib.Core.Option.{Option, none, some}
 use mathlib.Core.Path.{◌≡◌, refl, ap, sym, ◌∙◌}
@@ -8,17 +8,16 @@ use Prim.Native.Nat.{ℕ}
 use native.Mathlib.Omega.{arith}
 use lib.Dec.{eqb, ltb}
 use lib.ListN.{length}
-use Rattle.std.specs.Prelude.{Result, if◌then◌else◌}
+use Rattle.std.specs.Prelude.{if◌then◌else◌}
 use Rattle.paper.specs.Strings.{Bytes}
 use Rattle.paper.specs.Document01.{Outcome, refused, done, read_header}
 use Rattle.paper.specs.DayFile.{Day, read_day}
 use Rattle.paper.specs.Pause.{Pause, comma, point, header_mark, read_pause, pause_read, pause_under, pause_with, pausing}
 use Rattle.paper.specs.Ledger.{Report, pauses_of, report_of, line_of, figures_of, report_in, reporting, reporting_figures}
 use Rattle.laws.proofs.PauseParts.{comma_mark, point_mark, never_two_values}
-use Rattle.answer.specs.Outcomes.{number_in, size_in, outcome_in}
-use Rattle.answer.specs.declared.Refusal.{Refusal}
 use Rattle.pause.specs.Fields.{field_of}
 use Rattle.audit.proofs.Numbers.{among}
+use Rattle.audit.proofs.Determined.{one_outcome_in}
 use Rattle.pause_unit.proofs.is_rest.Reads as pause-is-rest
 use Rattle.pause_unit.proofs.with_unit.Reads as pause-with-unit
 use Rattle.pause_mark.proofs.header_mark.Reads as pause-header-mark
@@ -78,18 +77,6 @@ mean_figures_determined κs a z w e f p q = p ∙ sym q
 pub mean_put_figures_determined : (κs : _) (a : _) (z w : _) (e f : _) → mean-put-figures.Learnt κs a z e → mean-put-figures.Learnt κs a w f → e.1.0.now ≡ f.1.0.now
 mean_put_figures_determined κs a z w e f p q = p ∙ sym q
 
--- a contract that has no place tells an answer's number and its length
-one_outcome : (z w : Result ℕ Refusal) (X Y : List ℕ) → outcome_in z X ≡ outcome_in w Y → (number_in z ≡ number_in w) × (size_in z ≡ size_in w) × (X ≡ Y)
-one_outcome z w X Y e = (ap (λ (o : Outcome). o.number) e, ap (λ (o : Outcome). o.size) e, ap (λ (o : Outcome). o.output) e)
-
-pub ledger_report_determined : (κs : _) (a : _) (z w : _) (e f : _) → ledger-report.Learnt κs a z e → ledger-report.Learnt κs a w f
-    → (number_in z ≡ number_in w) × (size_in z ≡ size_in w) × (e.1.1.0.now ≡ f.1.1.0.now)
-ledger_report_determined κs a z w e f p q = one_outcome z w e.1.1.0.now f.1.1.0.now (p ∙ sym q)
-
-pub ledger_figures_determined : (κs : _) (a : _) (z w : _) (e f : _) → ledger-figures.Learnt κs a z e → ledger-figures.Learnt κs a w f
-    → (number_in z ≡ number_in w) × (size_in z ≡ size_in w) × (e.1.1.0.now ≡ f.1.1.0.now)
-ledger_figures_determined κs a z w e f p q = one_outcome z w e.1.1.0.now f.1.1.0.now (p ∙ sym q)
-
 pub exported_report_determined : (κs : _) (a : _) (z w : _) (e f : _) → exported-report.Learnt κs a z e → exported-report.Learnt κs a w f
     → (z ≡ w) × (e.1.1.1.0.now ≡ f.1.1.1.0.now) × (e.1.1.0.now ≡ f.1.1.0.now)
 exported_report_determined κs a z w e f p q = (p.0 ∙ sym q.0, p.1 ∙ sym q.1, p.2 ∙ sym q.2)
@@ -139,6 +126,21 @@ report_gives F key (some day) out = go (eqb (length key) 48) (ltb (length out) (
     go true true = refl
     go true false = refl
     go false b = refl
+
+reporting_no_3 : (F : Report → List ℕ) (key : Bytes) (o : Option Day) (out : List ℕ) → (report_in F key o out).number ≡ 3 → ⊥
+reporting_no_3 F key o out e = true≢false (sym (report_gives F key o out) ∙ ap (among of_reporting) e)
+
+pub ledger_report_determined : (κs : _) (a : _) (z w : _) (e f : _) → ledger-report.Learnt κs a z e → ledger-report.Learnt κs a w f
+    → (z ≡ w) × (e.1.1.0.now ≡ f.1.1.0.now)
+unfolding reporting
+ledger_report_determined κs a z w e f p q =
+    one_outcome_in z w e.1.1.0.now f.1.1.0.now _ (reporting_no_3 line_of a.0.now (read_day a.1.0.now) a.1.1.0.now) p q
+
+pub ledger_figures_determined : (κs : _) (a : _) (z w : _) (e f : _) → ledger-figures.Learnt κs a z e → ledger-figures.Learnt κs a w f
+    → (z ≡ w) × (e.1.1.0.now ≡ f.1.1.0.now)
+unfolding reporting_figures
+ledger_figures_determined κs a z w e f p q =
+    one_outcome_in z w e.1.1.0.now f.1.1.0.now _ (reporting_no_3 figures_of a.0.now (read_day a.1.0.now) a.1.1.0.now) p q
 
 pub report_number : (κs : _) (a : _) (n : _) (e : _) → exported-report.Learnt κs a n e → among of_reporting n ≡ true
 unfolding reporting

@@ -7,10 +7,11 @@ ghost use Rattle.laws.specs.Placing.{placed};
 ghost use Rattle.day_find.specs.Finds.{headers_in, records_in};
 ghost use Rattle.day_list.specs.Lists.{headers_listed, record_place, records_listed, listing_as};
 
-// What listing a file answers: the number, and how many headers and records it listed.
-#[derive(Clone, Copy)]
+use answer::Refusal;
+
+// How many headers and records of a file are listed.
+#[derive(Clone, Copy, Debug, PartialEq, Eq)]
 pub struct Listed {
-    pub number: u32,
     pub headers: usize,
     pub records: usize,
 }
@@ -46,28 +47,19 @@ fn list_records(file: &[u8], records: usize, first: usize, places: &mut [u64], b
 
 // Where every header and every record of a file stands, after one check of it: 9, then 6 for a list that is too short. Nothing is written before
 // the answer is settled.
-pub fn list(file: &[u8], places: &mut [u64]) -> Listed
+pub fn list(file: &[u8], places: &mut [u64]) -> Result<Listed, Refusal>
     ensures { listing_as result places.new ≡ listing file.now places.old }
 {
     let Some(day) = day::check(file) else {
-        return Listed {
-            number: 9,
-            headers: 0,
-            records: 0,
-        };
+        return Err(Refusal::NoRecord);
     };
     if places.len() < 2 * day.headers + 4 * day.records {
-        return Listed {
-            number: 6,
-            headers: 0,
-            records: 0,
-        };
+        return Err(Refusal::NoRoom);
     }
     list_headers(file, day.headers, places);
     list_records(file, day.records, day.first, places, 2 * day.headers);
-    Listed {
-        number: 0,
+    Ok(Listed {
         headers: day.headers,
         records: day.records,
-    }
+    })
 }

@@ -3,39 +3,26 @@
 
 ghost use Rattle.std.specs.Prelude.{◌≡◌};
 ghost use Rattle.paper.specs.DayFile.{opening_record};
-ghost use Rattle.answer.specs.Outcomes.{outcome};
+ghost use Rattle.answer.specs.Outcomes.{outcome_in};
 
-use answer::{Answer, StretchBytes};
+use answer::{Refusal, StretchBytes};
 
 // Opening record k: 9 where the file does not read or has no such record, else opening as document 01 has it.
-pub fn open(key: &[u8], file: &[u8], k: usize, out: &mut [u8]) -> Answer
-    ensures { outcome result out.new ≡ opening_record key.now file.now k out.old }
+pub fn open(key: &[u8], file: &[u8], k: usize, out: &mut [u8]) -> Result<usize, Refusal>
+    ensures { outcome_in result out.new ≡ opening_record key.now file.now k out.old }
 {
     let Some(day) = day::check(file) else {
-        return Answer {
-            number: 9,
-            length: 0,
-        };
+        return Err(Refusal::NoRecord);
     };
     if day.records <= k {
-        return Answer {
-            number: 9,
-            length: 0,
-        };
+        return Err(Refusal::NoRecord);
     }
     let f = day_find::find(file, day.records, k);
-    let opened = record::open(
+    record::open(
         key,
         &file[f.header_start..f.header_end],
         StretchBytes(f.stretch),
         &file[f.start..f.end],
         out,
-    );
-    match opened {
-        Ok(length) => Answer { number: 0, length },
-        Err(refusal) => Answer {
-            number: refusal.number(),
-            length: 0,
-        },
-    }
+    )
 }

@@ -1,6 +1,5 @@
 -- `day_open::open` meets its contract.
-use Rattle.std.proofs.Common.{Ok, Err, arith}
-use Rattle.answer.specs.Outcomes.{answer_at}
+use Rattle.std.proofs.Common.{arith}
 use Rattle.paper.specs.Strings.{Below}
 use Rattle.paper.specs.DayFile.{read_day}
 use Rattle.laws.proofs.Digits.{below_of}
@@ -16,19 +15,10 @@ returns-then-day-k c =
     let day = c.in-Some.day in
     opens_absent c.args.key.now c.args.file.now c.args.k c.args.out.now day.headers day.records day.first c.in-Some.ensures (omega arith)
 
-pub returns-in-Ok : goal.returns-in-Ok
-returns-in-Ok c =
+pub returns : goal.returns
+returns c =
     let f = c.args.file.now in
     let low : Below 256 f = below_of 256 f (λ i p. omega (arith, c.type_inv.file i)) in
     let day = c.in-Some.day in
     let there = stands f low day.records c.args.k (checked_records (read_day f) day.headers day.records day.first c.in-Some.ensures) (omega arith) in
-    opens_found c.args.key.now f low day.records c.args.k there c.find-f.result c.find-f.ensures.value (answer_at (Ok c.in-Ok.length)) c.open-opened.new.out c.args.out.now c.in-Ok.ensures
-
-pub returns-in-Err : goal.returns-in-Err
-returns-in-Err c =
-    let f = c.args.file.now in
-    let low : Below 256 f = below_of 256 f (λ i p. omega (arith, c.type_inv.file i)) in
-    let day = c.in-Some.day in
-    let there = stands f low day.records c.args.k (checked_records (read_day f) day.headers day.records day.first c.in-Some.ensures) (omega arith) in
-    rw c.number.ensures
-    (opens_found c.args.key.now f low day.records c.args.k there c.find-f.result c.find-f.ensures.value (answer_at (Err c.in-Err.refusal)) c.open-opened.new.out c.args.out.now c.in-Err.ensures)
+    opens_found c.args.key.now f low day.records c.args.k there c.find-f.result c.find-f.ensures.value c.open.result c.open.new.out c.args.out.now c.open.ensures
