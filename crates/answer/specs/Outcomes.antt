@@ -2,7 +2,6 @@
 use Rattle.std.specs.Prelude.{ℕ, Result, Ok, Err}
 use Rattle.paper.specs.Strings.{Bytes}
 use Rattle.paper.specs.Document01.{Outcome, OutcomeAt}
-use Rattle.answer.specs.declared.Answer.{Answer}
 use Rattle.answer.specs.declared.Refusal.{Refusal}
 use Rattle.answer.specs.declared.Refusal.TheVariants.{KeyLength, LongStretch, BadHeader, TooLong, ShortSealed, NoRoom, DoesNotOpen, LongItem, NoRecord, NoLocale, NoPause, BadList}
 
@@ -50,12 +49,8 @@ abbrev pub size_in : Result ℕ Refusal → ℕ
 size_in (Ok n) = n
 size_in (Err r) = 0
 
--- what a call returned, and the output that it left
-abbrev pub outcome : Answer → Bytes → Outcome
-outcome r out = record { number = r.number; size = r.length; output = out }
-
-abbrev pub outcome_in : Result ℕ Refusal → Bytes → Outcome
-outcome_in r out = record { number = number_in r; size = size_in r; output = out }
+abbrev pub outcome : Result ℕ Refusal → Bytes → Outcome
+outcome r out = record { number = number_in r; size = size_in r; output = out }
 
 -- an answer in numbers, and beside 3 the number of the header's bad entry
 pub record AnswerAt : Type 0 where

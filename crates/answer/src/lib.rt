@@ -8,13 +8,6 @@ ghost use Rattle.answer.specs.declared.Refusal.TheVariants.{BadHeader};
 
 use header::BadEntry;
 
-// An answer of document 01, and the length of what was written.
-#[derive(Clone, Copy)]
-pub struct Answer {
-    pub number: u32,
-    pub length: usize,
-}
-
 // Each refusal of document 01.
 #[derive(Clone, Copy, Debug, PartialEq, Eq)]
 pub enum Refusal {

@@ -18,7 +18,7 @@ use Rattle.laws.proofs.Demand3.{Fixed}
 use Rattle.laws.proofs.DayWritten.{RecordsFit, Layout}
 use Rattle.laws.proofs.DayReading.{write_read}
 use Rattle.laws.proofs.DayLists.{headers_listed_lem, records_listed_lem}
-use Rattle.answer.specs.Outcomes.{number_in, size_in, outcome, outcome_in, AnswerAt}
+use Rattle.answer.specs.Outcomes.{number_in, size_in, outcome, AnswerAt}
 use Rattle.answer.specs.declared.Refusal.{Refusal}
 use Rattle.answer.proofs.Refusals.{refuses}
 use Rattle.settle.specs.Settled.{Settled, settled_sealing}
@@ -33,10 +33,10 @@ use Rattle.audit.proofs.Demands.{Sealed, open_after_seal}
 
 -- a call that was lent these lists answered r and left these bytes in the output
 abbrev pub Wrote : (ls : List ℕ) (J : Bytes) (hs ts ns : List ℕ) (X out : Bytes) (r : Result ℕ Refusal) (last : Bytes) → Type 0
-Wrote ls J hs ts ns X out r last = outcome_in r last ≡ writing ls J hs ts ns X out
+Wrote ls J hs ts ns X out r last = outcome r last ≡ writing ls J hs ts ns X out
 
 abbrev pub OpenedRecord : (key file : Bytes) (k : ℕ) (out : Bytes) (r : Result ℕ Refusal) (last : Bytes) → Type 0
-OpenedRecord key file k out r last = outcome_in r last ≡ opening_record key file k out
+OpenedRecord key file k out r last = outcome r last ≡ opening_record key file k out
 
 -- they are the contracts that the checker made from the source
 pub write_promises : (κs : _) (a : _) (r : _) (e : _) → write-reads.Learnt κs a r e
@@ -87,7 +87,7 @@ module _ (ls : List ℕ) (J : Bytes) (hs ts ns : List ℕ) (X out : Bytes) (r : 
         short = omega (arith, h.size, fits.1.short);
       }
 
-  wrote_file : outcome_in r last ≡ done (length (write_day handed_day)) (write_day handed_day) out
+  wrote_file : outcome r last ≡ done (length (write_day handed_day)) (write_day handed_day) out
   unfolding handed_day writing write_as
   wrote_file =
       let h = fits.1.all in
@@ -124,7 +124,7 @@ module _ (ls : List ℕ) (J : Bytes) (hs ts ns : List ℕ) (X out : Bytes) (r : 
       let passed = (sealed_passes key header t M room q left seal done-0).common in
       let fixed : Fixed key header passed.strings t =
       record { key_bytes = record { len = passed.key_long; low = key_low }; header_bytes = header_low; reads = passed.reads; short = passed.short } in
-      let by_day : outcome_in s end ≡ open_record key handed_day (some own) buffer =
+      let by_day : outcome s end ≡ open_record key handed_day (some own) buffer =
       opened ∙ ap (λ (o : Option Day). open_in key o k buffer) written_day ∙ ap (λ (o : Option Record). open_record key handed_day o buffer) elem in
       let o : OutcomeAt = opening key header t own.sealed buffer in
       open_after_seal key header passed.strings t fixed M room text q left seal done-0 buffer (record { number = number_in s; length = size_in s; place = o.place }) end enough

@@ -18,8 +18,7 @@ use Rattle.paper.specs.Strings.{Bytes, tab}
 use Rattle.paper.specs.Section7.{◌·◌}
 use Rattle.paper.specs.Figure6 as figure6
 use Rattle.paper.specs.Document01.{Outcome, OutcomeAt}
-use Rattle.answer.specs.Outcomes.{number_in, size_in, place_in, outcome, outcome_in, outcome_at}
-use Rattle.answer.specs.declared.Answer.{Answer}
+use Rattle.answer.specs.Outcomes.{number_in, size_in, place_in, outcome, outcome_at}
 use Rattle.answer.specs.declared.Refusal.{Refusal}
 use Rattle.answer.proofs.Refusals.{one_answer, one_test}
 use Rattle.settle.specs.Settled.{Settled, settled_by}
@@ -176,12 +175,6 @@ use Rattle.aez.proofs.aez_day_append.Reads as exported-day-append
 one : {A : Type 0} {x y z : A} → x ≡ z → y ≡ z → x ≡ y
 one p q = p ∙ sym q
 
--- a number, a length and a buffer, where the three are one outcome
-one_outcome : (z w : Answer) (X Y : Bytes) (o : Outcome) → outcome z X ≡ o → outcome w Y ≡ o → (z ≡ w) × (X ≡ Y)
-one_outcome z w X Y o p q =
-    let e : outcome z X ≡ outcome w Y = one p q in
-    (ap (λ (o : Outcome). record { number = o.number; length = o.size }) e, ap (λ (o : Outcome). o.output) e)
-
 -- beside another number than 3 the place is 0
 no_place : (z : Result ℕ Refusal) → (number_in z ≡ 3 → ⊥) → place_in z ≡ 0
 no_place (Ok n) f = refl
@@ -199,9 +192,9 @@ no_place (Err NoPause) f = refl
 no_place (Err BadList) f = refl
 
 -- the same of a door whose contract has no place, since it answers no 3
-pub one_outcome_in : (z w : Result ℕ Refusal) (X Y : Bytes) (o : Outcome) → (o.number ≡ 3 → ⊥) → outcome_in z X ≡ o → outcome_in w Y ≡ o → (z ≡ w) × (X ≡ Y)
-one_outcome_in z w X Y o f p q =
-    let e : outcome_in z X ≡ outcome_in w Y = one p q in
+pub one_outcome : (z w : Result ℕ Refusal) (X Y : Bytes) (o : Outcome) → (o.number ≡ 3 → ⊥) → outcome z X ≡ o → outcome w Y ≡ o → (z ≡ w) × (X ≡ Y)
+one_outcome z w X Y o f p q =
+    let e : outcome z X ≡ outcome w Y = one p q in
     let zero = no_place z (λ t. f (sym (ap (λ (o : Outcome). o.number) p) ∙ t)) in
     let other = no_place w (λ t. f (sym (ap (λ (o : Outcome). o.number) q) ∙ t)) in
     (one_answer z w (ap (λ (o : Outcome). o.number) e) (ap (λ (o : Outcome). o.size) e) (one zero other), ap (λ (o : Outcome). o.output) e)
@@ -223,10 +216,10 @@ one_listing z w X Y o p q =
     (ap (λ (o : Listing). o.number) e, ap (λ (o : Listing). record { headers = o.headers; records = o.records }) e, ap (λ (o : Listing). o.places) e)
 
 -- a door that hands on what opening answers: its contract has no place, and tells the number and the length
-one_opened : (z w : Result ℕ Refusal) (X Y : Bytes) (o : Outcome) → outcome_in z X ≡ o → outcome_in w Y ≡ o
+one_opened : (z w : Result ℕ Refusal) (X Y : Bytes) (o : Outcome) → outcome z X ≡ o → outcome w Y ≡ o
     → (number_in z ≡ number_in w) × (size_in z ≡ size_in w) × (X ≡ Y)
 one_opened z w X Y o p q =
-    let e : outcome_in z X ≡ outcome_in w Y = one p q in
+    let e : outcome z X ≡ outcome w Y = one p q in
     (ap (λ (o : Outcome). o.number) e, ap (λ (o : Outcome). o.size) e, ap (λ (o : Outcome). o.output) e)
 
 -- a step over a record and a walk over headers: what is read of the rest tells the two apart
@@ -532,7 +525,7 @@ builder_put_determined κs a z w e f p q = (one p.0 q.0, one p.1 q.1)
 
 pub builder_log_header_determined : (κs : _) (a : _) (z w : _) (e f : _) → builder-log-header.Learnt κs a z e → builder-log-header.Learnt κs a w f → (z ≡ w) × (e.1.1.1.1.0.now ≡ f.1.1.1.1.0.now)
 builder_log_header_determined κs a z w e f p q =
-    one_outcome_in z w e.1.1.1.1.0.now f.1.1.1.1.0.now _ (building_no_3 a.0.now a.1.0.now a.1.1.0.now a.1.1.1.0.now a.1.1.1.1.0.now) p q
+    one_outcome z w e.1.1.1.1.0.now f.1.1.1.1.0.now _ (building_no_3 a.0.now a.1.0.now a.1.1.0.now a.1.1.1.0.now a.1.1.1.1.0.now) p q
 
 -- ---- The strings of a tweak: `strings`
 
@@ -669,7 +662,7 @@ day_put_headers_determined κs a z w e f p q = (one p.0 q.0, one p.1 q.1)
 
 pub day_write_determined : (κs : _) (a : _) (z w : _) (e f : _) → day-write.Learnt κs a z e → day-write.Learnt κs a w f → (z ≡ w) × (e.1.1.1.1.1.1.0.now ≡ f.1.1.1.1.1.1.0.now)
 day_write_determined κs a z w e f p q =
-    one_outcome_in z w e.1.1.1.1.1.1.0.now f.1.1.1.1.1.1.0.now _
+    one_outcome z w e.1.1.1.1.1.1.0.now f.1.1.1.1.1.1.0.now _
     (writing_no_3 a.0.now a.1.0.now a.1.1.0.now a.1.1.1.0.now a.1.1.1.1.0.now a.1.1.1.1.1.0.now a.1.1.1.1.1.1.0.now) p q
 
 pub day_put_record_determined : (κs : _) (a : _) (z w : _) (e f : _) → day-put-record.Learnt κs a z e → day-put-record.Learnt κs a w f → e.0.now ≡ f.0.now
@@ -692,13 +685,13 @@ day_put_grown_determined κs a z w e f p q = one p q
 
 pub day_append_determined : (κs : _) (a : _) (z w : _) (e f : _) → day-append.Learnt κs a z e → day-append.Learnt κs a w f → (z ≡ w) × (e.0.now ≡ f.0.now)
 day_append_determined κs a z w e f p q =
-    one_outcome_in z w e.0.now f.0.now _ (appending_no_3 a.0.now a.1.0 a.1.1.0 a.1.1.1.0.now a.1.1.1.1.0 a.1.1.1.1.1.0.now) p q
+    one_outcome z w e.0.now f.0.now _ (appending_no_3 a.0.now a.1.0 a.1.1.0 a.1.1.1.0.now a.1.1.1.1.0 a.1.1.1.1.1.0.now) p q
 
 pub day_put_cleared_determined : (κs : _) (a : _) (z w : _) (e f : _) → day-put-cleared.Learnt κs a z e → day-put-cleared.Learnt κs a w f → (z ≡ w) × (e.0.now ≡ f.0.now)
 day_put_cleared_determined κs a z w e f p q = (one p.0 q.0, one p.1 q.1)
 
 pub day_clear_determined : (κs : _) (a : _) (z w : _) (e f : _) → day-clear.Learnt κs a z e → day-clear.Learnt κs a w f → (z ≡ w) × (e.0.now ≡ f.0.now)
-day_clear_determined κs a z w e f p q = one_outcome_in z w e.0.now f.0.now _ (clearing_no_3 a.0.now a.1.0 a.1.1.0.now) p q
+day_clear_determined κs a z w e f p q = one_outcome z w e.0.now f.0.now _ (clearing_no_3 a.0.now a.1.0 a.1.1.0.now) p q
 
 -- ---- What other programs link: `aez`
 

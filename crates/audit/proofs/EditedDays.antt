@@ -23,7 +23,7 @@ use Rattle.laws.proofs.DayReading.{write_read, read_write, record_fits_lem}
 use Rattle.laws.proofs.DayPlaces.{elem_drop, elem_fits}
 use Rattle.laws.proofs.DayCleared.{cleared_within, cleared_again, kept_record, kept_header}
 use Rattle.laws.proofs.DayGrown.{grown_within, grown_before, grown_last, same_headers}
-use Rattle.answer.specs.Outcomes.{number_in, size_in, outcome, outcome_in, AnswerAt}
+use Rattle.answer.specs.Outcomes.{number_in, size_in, outcome, AnswerAt}
 use Rattle.answer.specs.declared.Refusal.{Refusal}
 use Rattle.day_clear.proofs.clear.Reads as clear_reads
 use Rattle.day_append.proofs.append.Reads as append-reads
@@ -34,10 +34,10 @@ use Rattle.audit.proofs.DayFiles.{OpenedRecord, written, sealed_passes}
 
 -- a call that was lent this buffer and list answered r and left these bytes in the buffer
 abbrev pub Cleared : (B : Bytes) (size : ℕ) (dropped : List ℕ) (r : Result ℕ Refusal) (last : Bytes) → Type 0
-Cleared B size dropped r last = outcome_in r last ≡ clearing B size dropped
+Cleared B size dropped r last = outcome r last ≡ clearing B size dropped
 
 abbrev pub Appended : (B : Bytes) (size number : ℕ) (header : Bytes) (stretch : ℕ) (sealed : Bytes) (r : Result ℕ Refusal) (last : Bytes) → Type 0
-Appended B size number header stretch sealed r last = outcome_in r last ≡ appending B size number header stretch sealed
+Appended B size number header stretch sealed r last = outcome r last ≡ appending B size number header stretch sealed
 
 -- they are the contracts that the checker made from the source
 pub clear_promises : (κs : _) (a : _) (r : _) (e : _) → clear_reads.Learnt κs a r e → Cleared a.0.now a.1.0 a.1.1.0.now r e.0.now
@@ -67,18 +67,18 @@ module _ (B : Bytes) (low : Below 256 B) (size : ℕ) (day : Day) (reads : read_
   file = write_day (cleared dropped day)
 
   -- answer 0 says that the file and the list are right
-  is : outcome_in r last ≡ shrunk file size B
+  is : outcome r last ≡ shrunk file size B
   unfolding clearing clear_in
   is = by_length (ltb (length B) size) call
     where
-      not_0 : (n : ℕ) → (0 < n) → outcome_in r last ≡ refused n B → outcome_in r last ≡ shrunk file size B
+      not_0 : (n : ℕ) → (0 < n) → outcome r last ≡ refused n B → outcome r last ≡ shrunk file size B
       not_0 n p e = absurd (omega (arith, p, ap (λ (o : Outcome). o.number) e, zero))
 
-      by_list : (b : Bool) → outcome_in r last ≡ (if b then shrunk file size B else refused 17 B) → outcome_in r last ≡ shrunk file size B
+      by_list : (b : Bool) → outcome r last ≡ (if b then shrunk file size B else refused 17 B) → outcome r last ≡ shrunk file size B
       by_list true e = e
       by_list false e = not_0 17 (omega arith) e
 
-      by_length : (b : Bool) → outcome_in r last ≡ (if b then refused 9 B else clear_in (read_day (take size B)) size dropped B) → outcome_in r last ≡ shrunk file size B
+      by_length : (b : Bool) → outcome r last ≡ (if b then refused 9 B else clear_in (read_day (take size B)) size dropped B) → outcome r last ≡ shrunk file size B
       by_length true e = not_0 9 (omega arith) e
       by_length false e = by_list (rising_from 0 (length day.records) dropped) (e ∙ ap (λ (o : Option Day). clear_in o size dropped B) reads)
 
@@ -117,7 +117,7 @@ module _ (B : Bytes) (low : Below 256 B) (size : ℕ) (day : Day) (reads : read_
       let same : write_day (cleared [] (cleared dropped day)) ≡ file = ap write_day (cleared_again dropped day within) in
       let none_left : size_in r - length file ≡ 0 = omega (arith, size_is) in
       let past : drop (size_in r) last ≡ rest = (λ i. drop (size_is i) (whole i)) ∙ drop-append_seam file rest in
-      let e : outcome_in s end ≡ shrunk file (size_in r) last =
+      let e : outcome s end ≡ shrunk file (size_in r) last =
       again
       ∙ ap (λ (b : Bool). if b then refused 9 last else clear_in (read_day (take (size_in r) last)) (size_in r) [] last) (le-ltb (length last) (size_in r) inside)
       ∙ ap (λ (o : Option Day). clear_in o (size_in r) [] last) cleared_reads
@@ -144,23 +144,23 @@ module _ (B : Bytes) (low : Below 256 B) (size : ℕ) (day : Day) (reads : read_
   record Grew : Type 0 where
     fits : append_fits number header stretch (length day.headers) ≡ true
     short : length (write_day after) ≤ longest_file
-    is : outcome_in r last ≡ done (length (write_day after)) (write_day after) B
+    is : outcome r last ≡ done (length (write_day after)) (write_day after) B
 
   grew : Grew
   unfolding appending append_in
   grew = by_length (ltb (length B) size) call
     where
-      not_0 : (n : ℕ) → (0 < n) → outcome_in r last ≡ refused n B → Grew
+      not_0 : (n : ℕ) → (0 < n) → outcome r last ≡ refused n B → Grew
       not_0 n p e = absurd (omega (arith, p, ap (λ (o : Outcome). o.number) e, zero))
 
       by_tests : (a b c : Bool) → append_fits number header stretch (length day.headers) ≡ a → ltb longest_file (length (write_day after)) ≡ b
-          → outcome_in r last ≡ (if not a then refused 9 B else if b then refused 6 B else if c then refused 6 B else done (length (write_day after)) (write_day after) B) → Grew
+          → outcome r last ≡ (if not a then refused 9 B else if b then refused 6 B else if c then refused 6 B else done (length (write_day after)) (write_day after) B) → Grew
       by_tests true false false p q e = record { fits = p; short = ltb-false longest_file (length (write_day after)) q; is = e }
       by_tests true false true p q e = not_0 6 (omega arith) e
       by_tests true true c p q e = not_0 6 (omega arith) e
       by_tests false b c p q e = not_0 9 (omega arith) e
 
-      by_length : (b : Bool) → outcome_in r last ≡ (if b then refused 9 B else append_in (read_day (take size B)) number header stretch sealed B) → Grew
+      by_length : (b : Bool) → outcome r last ≡ (if b then refused 9 B else append_in (read_day (take size B)) number header stretch sealed B) → Grew
       by_length true e = not_0 9 (omega arith) e
       by_length false e =
           by_tests (append_fits number header stretch (length day.headers)) (ltb longest_file (length (write_day after))) (ltb (length B) (length (write_day after))) refl refl
@@ -195,7 +195,7 @@ module _ (B : Bytes) (low : Below 256 B) (size : ℕ) (day : Day) (reads : read_
       let passed = (sealed_passes key h stretch M room q left seal done-0).common in
       let fixed : Fixed key h passed.strings stretch =
       record { key_bytes = record { len = passed.key_long; low = key_low }; header_bytes = header_low; reads = passed.reads; short = passed.short } in
-      let by_day : outcome_in s end ≡ open_record key after (some new) buffer =
+      let by_day : outcome s end ≡ open_record key after (some new) buffer =
       opened ∙ by_reading key (written r last) (length day.records) buffer after new grown_reads (grown_last number header stretch sealed day) in
       let o : OutcomeAt = opening key h stretch sealed buffer in
       open_after_seal key h passed.strings stretch fixed M room text q left seal done-0 buffer (record { number = number_in s; length = size_in s; place = o.place }) end enough
@@ -210,7 +210,7 @@ module _ (B : Bytes) (size : ℕ) (day : Day) (inside : size ≤ length B) (read
   abbrev grown_file_lem : Bytes
   grown_file_lem = write_day (grown number header stretch sealed day)
 
-  settled : outcome_in r last ≡ (if ltb longest_file (length grown_file_lem) then refused 6 B else if ltb (length B) (length grown_file_lem) then refused 6 B else done (length grown_file_lem) grown_file_lem B)
+  settled : outcome r last ≡ (if ltb longest_file (length grown_file_lem) then refused 6 B else if ltb (length B) (length grown_file_lem) then refused 6 B else done (length grown_file_lem) grown_file_lem B)
   unfolding appending append_in
   settled =
       call
@@ -229,7 +229,7 @@ module _ (B : Bytes) (size : ℕ) (day : Day) (inside : size ≤ length B) (read
   room_where_fits z = go (ltb longest_file (length grown_file_lem)) refl (ltb (length B) (length grown_file_lem)) refl settled
     where
       go : (a : Bool) → ltb longest_file (length grown_file_lem) ≡ a → (b : Bool) → ltb (length B) (length grown_file_lem) ≡ b
-          → outcome_in r last ≡ (if a then refused 6 B else if b then refused 6 B else done (length grown_file_lem) grown_file_lem B) → (length grown_file_lem ≤ longest_file) × (length grown_file_lem ≤ length B)
+          → outcome r last ≡ (if a then refused 6 B else if b then refused 6 B else done (length grown_file_lem) grown_file_lem B) → (length grown_file_lem ≤ longest_file) × (length grown_file_lem ≤ length B)
       go true p b q e = absurd (omega (arith, ap (λ (o : Outcome). o.number) e, z))
       go false p true q e = absurd (omega (arith, ap (λ (o : Outcome). o.number) e, z))
       go false p false q e = (ltb-false longest_file (length grown_file_lem) p, ltb-false (length B) (length grown_file_lem) q)

@@ -10,7 +10,7 @@ use Rattle.paper.specs.Strings.{Bytes, Below}
 use Rattle.paper.specs.Document01.{Outcome, done, read_header, log_header, building_log_header}
 use Rattle.laws.proofs.Headers.{Fits, log_header_reads, same_items}
 use Rattle.std.specs.Prelude.{Result, Ok, Err}
-use Rattle.answer.specs.Outcomes.{number_in, size_in, outcome_in}
+use Rattle.answer.specs.Outcomes.{number_in, size_in, outcome}
 use Rattle.answer.specs.declared.Refusal.{Refusal}
 use Rattle.answer.proofs.Refusals as refusals
 use Rattle.builder.specs.Building.{settled_as}
@@ -20,7 +20,7 @@ use Rattle.builder.proofs.log_header.Reads as log-header-contract
 
 -- a call that was lent these items answered r and left these bytes in the output
 abbrev pub Built : (nonce host collector locale out : Bytes) (r : Result ℕ Refusal) (last : Bytes) → Type 0
-Built nonce host collector locale out r last = outcome_in r last ≡ building_log_header nonce host collector locale out
+Built nonce host collector locale out r last = outcome r last ≡ building_log_header nonce host collector locale out
 
 -- that is the contract that the checker made from the source
 pub log_header_promises : (κs : _) (a : _) (r : _) (e : _) → log-header-contract.Learnt κs a r e
@@ -53,7 +53,7 @@ module _ (nonce host collector locale out : Bytes) (r : Result ℕ Refusal) (las
       go : (z : Result ℕ Refusal) → z ≡ settled_as nonce host collector locale (length out) → Wrote
       go (Ok n) s =
           let fits = accepts nonce host collector locale n (length out) s in
-          let is : outcome_in r last ≡ done (length header) header out = call ∙ builds_0 nonce host collector locale fits.0 out fits.1 in
+          let is : outcome r last ≡ done (length header) header out = call ∙ builds_0 nonce host collector locale fits.0 out fits.1 in
           record {
             short = items_fit nonce host collector locale fits.0;
             header_first = (λ i. take (is i).size (is i).output) ∙ take-append_seam header (drop (length header) out);

@@ -17,7 +17,7 @@ use Rattle.paper.specs.Ledger.{Report, pauses_of, report_of, line_of, figures_of
 use Rattle.laws.proofs.PauseParts.{comma_mark, point_mark, never_two_values}
 use Rattle.pause.specs.Fields.{field_of}
 use Rattle.audit.proofs.Numbers.{among}
-use Rattle.audit.proofs.Determined.{one_outcome_in}
+use Rattle.audit.proofs.Determined.{one_outcome}
 use Rattle.pause_unit.proofs.is_rest.Reads as pause-is-rest
 use Rattle.pause_unit.proofs.with_unit.Reads as pause-with-unit
 use Rattle.pause_mark.proofs.header_mark.Reads as pause-header-mark
@@ -134,13 +134,13 @@ pub ledger_report_determined : (κs : _) (a : _) (z w : _) (e f : _) → ledger-
     → (z ≡ w) × (e.1.1.0.now ≡ f.1.1.0.now)
 unfolding reporting
 ledger_report_determined κs a z w e f p q =
-    one_outcome_in z w e.1.1.0.now f.1.1.0.now _ (reporting_no_3 line_of a.0.now (read_day a.1.0.now) a.1.1.0.now) p q
+    one_outcome z w e.1.1.0.now f.1.1.0.now _ (reporting_no_3 line_of a.0.now (read_day a.1.0.now) a.1.1.0.now) p q
 
 pub ledger_figures_determined : (κs : _) (a : _) (z w : _) (e f : _) → ledger-figures.Learnt κs a z e → ledger-figures.Learnt κs a w f
     → (z ≡ w) × (e.1.1.0.now ≡ f.1.1.0.now)
 unfolding reporting_figures
 ledger_figures_determined κs a z w e f p q =
-    one_outcome_in z w e.1.1.0.now f.1.1.0.now _ (reporting_no_3 figures_of a.0.now (read_day a.1.0.now) a.1.1.0.now) p q
+    one_outcome z w e.1.1.0.now f.1.1.0.now _ (reporting_no_3 figures_of a.0.now (read_day a.1.0.now) a.1.1.0.now) p q
 
 pub report_number : (κs : _) (a : _) (n : _) (e : _) → exported-report.Learnt κs a n e → among of_reporting n ≡ true
 unfolding reporting

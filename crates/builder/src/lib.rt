@@ -3,7 +3,7 @@
 
 ghost use Rattle.std.specs.Prelude.{[], ◌∷◌, ◌≡◌, ◌+◌, ◌≤◌, length};
 ghost use Rattle.paper.specs.Document01.{write_strings, log_header, building_log_header};
-ghost use Rattle.answer.specs.Outcomes.{outcome_in};
+ghost use Rattle.answer.specs.Outcomes.{outcome};
 ghost use Rattle.laws.specs.Placing.{placed};
 ghost use Rattle.builder.specs.Building.{too_long, settled_as};
 
@@ -83,7 +83,7 @@ pub fn log_header(
     locale: &[u8],
     out: &mut [u8],
 ) -> Result<usize, Refusal>
-    ensures { outcome_in result out.new ≡ building_log_header nonce.now host.now collector.now locale.now out.old }
+    ensures { outcome result out.new ≡ building_log_header nonce.now host.now collector.now locale.now out.old }
 {
     let size = settled(nonce, host, collector, locale, out.len())?;
     put_log(nonce, host, collector, locale, out);

@@ -3,7 +3,7 @@
 
 ghost use Rattle.std.specs.Prelude.{◌≡◌, ◌+◌, ◌≤◌, length};
 ghost use Rattle.paper.specs.DayEdits.{append_fits, appending};
-ghost use Rattle.answer.specs.Outcomes.{outcome_in};
+ghost use Rattle.answer.specs.Outcomes.{outcome};
 ghost use Rattle.day_append.specs.Appended.{capped, taken};
 
 use answer::Refusal;
@@ -43,7 +43,7 @@ pub fn append(
     stretch: u64,
     sealed: &[u8],
 ) -> Result<usize, Refusal>
-    ensures { outcome_in result buffer.new ≡ appending buffer.old size number header.now stretch sealed.now }
+    ensures { outcome result buffer.new ≡ appending buffer.old size number header.now stretch sealed.now }
 {
     if (buffer.len() as u64) < size {
         return Err(Refusal::NoRecord);

@@ -3,7 +3,7 @@
 
 ghost use Rattle.std.specs.Prelude.{◌≡◌};
 ghost use Rattle.paper.specs.DayEdits.{rising_from, clearing};
-ghost use Rattle.answer.specs.Outcomes.{outcome_in};
+ghost use Rattle.answer.specs.Outcomes.{outcome};
 
 use answer::Refusal;
 
@@ -23,7 +23,7 @@ fn rising(dropped: &[u64], records: usize) -> bool
 
 // Clearing: 9, then 17 for a list that is not strictly rising or names a record that is absent. Nothing is written before the answer is settled.
 pub fn clear(buffer: &mut [u8], size: u64, dropped: &[u64]) -> Result<usize, Refusal>
-    ensures { outcome_in result buffer.new ≡ clearing buffer.old size dropped.now }
+    ensures { outcome result buffer.new ≡ clearing buffer.old size dropped.now }
 {
     if (buffer.len() as u64) < size {
         return Err(Refusal::NoRecord);

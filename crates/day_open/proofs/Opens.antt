@@ -10,7 +10,7 @@ use Rattle.paper.specs.Document01.{refused, opening}
 use Rattle.paper.specs.DayFile.{Record, Day, place_of, header_place, header_of, read_day, open_record, open_in, opening_record}
 use Rattle.laws.proofs.DayPlaces.{header_stands}
 use Rattle.answer.specs.declared.Refusal.{Refusal}
-use Rattle.answer.specs.Outcomes.{outcome_in, outcome_at}
+use Rattle.answer.specs.Outcomes.{outcome, outcome_at}
 use Rattle.std.specs.Prelude.{None, Some, Result}
 use Rattle.day_find.specs.declared.Found.{Found}
 use Rattle.day.specs.Checks.{checked_as, checked_day}
@@ -79,7 +79,7 @@ module _ (key f : Bytes) (low : Below 256 f) (records k : ℕ) (s : Stands f rec
 
   pub opens_found : (a : Result ℕ Refusal) (last out : Bytes)
       → outcome_at a last ≡ opening key (take (found.header_end - found.header_start) (drop found.header_start f)) found.stretch (take (found.end - found.start) (drop found.start f)) out
-      → outcome_in a last ≡ opening_record key f k out
+      → outcome a last ≡ opening_record key f k out
   unfolding opening_record open_in open_record
   opens_found a last out e =
       let p = e ∙ (λ i. opening key (header_part i) (stretch_is i) (sealed_part i) out) in

@@ -18,7 +18,7 @@ use Rattle.laws.proofs.DayWritten.{record_long, records_long, first_place_lem, d
 use Rattle.laws.proofs.DayLists.{headers_listed_lem, records_listed_lem}
 use Rattle.answer.specs.declared.Refusal.{Refusal}
 use Rattle.answer.specs.declared.Refusal.TheVariants.{TooLong, NoRoom}
-use Rattle.answer.specs.Outcomes.{number_in, size_in, outcome_in}
+use Rattle.answer.specs.Outcomes.{number_in, size_in, outcome}
 use Rattle.answer.proofs.Refusals.{refuses}
 use Rattle.laws.specs.Placing.{placed}
 use Rattle.day_fit.specs.Fits.{records_right}
@@ -61,18 +61,18 @@ module _ (ls : List ℕ) (J : Bytes) (hs ts ns : List ℕ) (X : Bytes) where
 
   -- ---- A refusal
 
-  pub write_refused : (r : Refusal) (out : Bytes) → Err r ≡ settled_for day_from_lem (length out) → outcome_in (Err r) out ≡ writing ls J hs ts ns X out
+  pub write_refused : (r : Refusal) (out : Bytes) → Err r ≡ settled_for day_from_lem (length out) → outcome (Err r) out ≡ writing ls J hs ts ns X out
   unfolding writing write_as
   write_refused r out e = go day_from_lem e
     where
       by : (day : Day) (a b : Bool) → Err r ≡ (if a then Err TooLong else if b then Err NoRoom else Ok (length (write_day day)))
-          → outcome_in (Err r) out ≡ (if a then refused 4 out else if b then refused 6 out else done (length (write_day day)) (write_day day) out)
-      by day true b e = ap (λ (x : Result ℕ Refusal). outcome_in x out) e
-      by day false true e = ap (λ (x : Result ℕ Refusal). outcome_in x out) e
+          → outcome (Err r) out ≡ (if a then refused 4 out else if b then refused 6 out else done (length (write_day day)) (write_day day) out)
+      by day true b e = ap (λ (x : Result ℕ Refusal). outcome x out) e
+      by day false true e = ap (λ (x : Result ℕ Refusal). outcome x out) e
       by day false false e = absurd (refuses r (ap number_in e))
 
-      go : (o : Option Day) → Err r ≡ settled_for o (length out) → outcome_in (Err r) out ≡ write_as o out
-      go none e = ap (λ (x : Result ℕ Refusal). outcome_in x out) e
+      go : (o : Option Day) → Err r ≡ settled_for o (length out) → outcome (Err r) out ≡ write_as o out
+      go none e = ap (λ (x : Result ℕ Refusal). outcome x out) e
       go (some day) e = by day (ltb longest_file (length (write_day day))) (ltb (length out) (length (write_day day))) e
 
   -- ---- No refusal
@@ -173,7 +173,7 @@ module _ (ls : List ℕ) (J : Bytes) (hs ts ns : List ℕ) (X : Bytes) where
           let c6 = put_more places [] o6 (index + 4 + length places) c5 refl p6 refl (omega (arith, room, ended, heads_long, indexed, records_long_here, places_size)) k6 in
           (put_all c6 refl).1 ∙ ap (λ (w : Bytes). placed 0 w out) (parts (end + 4) first_at)
 
-      pub wrote : (n : ℕ) → n ≡ length (write_day h.day) → size_of (length ls) (length J) (length ns) (length X) ≤ 65536 → outcome_in (Ok n) o6 ≡ writing ls J hs ts ns X out
+      pub wrote : (n : ℕ) → n ≡ length (write_day h.day) → size_of (length ls) (length J) (length ns) (length X) ≤ 65536 → outcome (Ok n) o6 ≡ writing ls J hs ts ns X out
       unfolding writing write_as
       wrote n is short =
           let file = write_day h.day in

@@ -3,7 +3,7 @@
 
 ghost use Rattle.std.specs.Prelude.{◌≡◌, ◌<◌, ◌≤◌};
 ghost use Rattle.paper.specs.DayFile.{headers_of, day_from, writing};
-ghost use Rattle.answer.specs.Outcomes.{outcome_in};
+ghost use Rattle.answer.specs.Outcomes.{outcome};
 ghost use Rattle.day_write.specs.Settled.{size_of, settled_for};
 
 use answer::Refusal;
@@ -57,7 +57,7 @@ pub fn write(
     sealed: &[u8],
     out: &mut [u8],
 ) -> Result<usize, Refusal>
-    ensures { outcome_in result out.new ≡ writing lengths.now headers.now numbers.now stretches.now sizes.now sealed.now out.old }
+    ensures { outcome result out.new ≡ writing lengths.now headers.now numbers.now stretches.now sizes.now sealed.now out.old }
 {
     let length = settled(
         lengths,

@@ -8,7 +8,7 @@
 
 ghost use Rattle.std.specs.Prelude.{◌<◌, ◌≤◌, length};
 
-use answer::{Answer, Refusal, StretchBytes};
+use answer::{Refusal, StretchBytes};
 use std::io::{self, ErrorKind, Read};
 
 // The value of a hex digit, and 0 for any other byte.
@@ -81,9 +81,12 @@ fn to_hex(s: &[u8], line: &mut [u8]) -> usize
     j
 }
 
-// Writes an answer, and the whole output in hex on the next line.
-fn show(rt: &impl Print, answer: Answer, out: &[u8]) -> io::Result<()> {
-    println!(rt; "{:x} {:x}", answer.number, answer.length)?;
+// Writes an answer as its number and its length, and the whole output in hex on the next line.
+fn show(rt: &impl Print, answer: Result<usize, Refusal>, out: &[u8]) -> io::Result<()> {
+    match answer {
+        Ok(length) => println!(rt; "0 {length:x}")?,
+        Err(refusal) => println!(rt; "{:x} 0", refusal.number())?,
+    }
     let mut line = [0u8; 131202];
     let k = to_hex(out, &mut line);
     rt.write_all(&line[0..k])?;
@@ -133,26 +136,15 @@ fn part(s: &[u8], at: usize, n: usize) -> &[u8] {
     }
 }
 
-// What a vector has of an answer: the number and the length.
-fn in_numbers(r: Result<usize, Refusal>) -> Answer {
-    match r {
-        Ok(length) => Answer { number: 0, length },
-        Err(refusal) => Answer {
-            number: refusal.number(),
-            length: 0,
-        },
-    }
-}
-
 // Makes the call that a vector's first letter names.
-fn call(v: First, s: &[u8], out: &mut [u8]) -> Answer {
+fn call(v: First, s: &[u8], out: &mut [u8]) -> Result<usize, Refusal> {
     let a = part(s, 0, v.a);
     let b = part(s, 65600, v.b);
     let c = part(s, 131200, v.c);
     match v.which {
-        b's' => in_numbers(record::seal(a, b, StretchBytes(v.stretch), c, out)),
-        b'o' => in_numbers(record::open(a, b, StretchBytes(v.stretch), c, out)),
-        _ => in_numbers(builder::log_header(a, b, c, part(s, 196800, v.d), out)),
+        b's' => record::seal(a, b, StretchBytes(v.stretch), c, out),
+        b'o' => record::open(a, b, StretchBytes(v.stretch), c, out),
+        _ => builder::log_header(a, b, c, part(s, 196800, v.d), out),
     }
 }
 

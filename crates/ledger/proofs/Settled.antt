@@ -17,7 +17,7 @@ use Rattle.paper.specs.Ledger as paper
 use Rattle.paper.specs.Ledger.{pauses_of, report_of, figures_of, put, report_in, reporting_figures}
 use Rattle.answer.specs.declared.Refusal.{Refusal}
 use Rattle.answer.specs.declared.Refusal.TheVariants.{KeyLength, NoRecord}
-use Rattle.answer.specs.Outcomes.{number_of, outcome_in}
+use Rattle.answer.specs.Outcomes.{number_of, outcome}
 use Rattle.laws.specs.Placing.{placed}
 use Rattle.std.specs.Prelude.{None, Some, Result, Ok, Err}
 use Rattle.day.specs.Checks.{checked_as, checked_day}
@@ -89,7 +89,7 @@ module _ (F : paper.Report → List ℕ) (key : Bytes) (out : List ℕ) (o : Opt
 
     -- 0
     pub written : (n : ℕ) (last : List ℕ) → n ≡ length (F (meaning r)) → length (F (meaning r)) ≤ length out → last ≡ placed 0 (F (meaning r)) out
-        → outcome_in (Ok n) last ≡ report_in F key o out
+        → outcome (Ok n) last ≡ report_in F key o out
     written n last e p q =
         let all : 0 + length (F (meaning r)) ≡ length (F (meaning r)) = omega arith in
         let there : last ≡ F (meaning r) ++ drop (length (F (meaning r))) out = q ∙ ap (λ (k : ℕ). F (meaning r) ++ drop k out) all in

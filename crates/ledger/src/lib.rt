@@ -7,7 +7,7 @@ ghost use Rattle.std.specs.Prelude.{◌≡◌, ◌<◌, length, replicate};
 ghost use Rattle.paper.specs.Document01.{reading};
 ghost use Rattle.paper.specs.DayFile.{read_day};
 ghost use Rattle.paper.specs.Ledger.{opened_pause, report_of, reporting, reporting_figures};
-ghost use Rattle.answer.specs.Outcomes.{outcome_in};
+ghost use Rattle.answer.specs.Outcomes.{outcome};
 ghost use Rattle.day_find.specs.Finds.{headers_in, records_in};
 ghost use Rattle.day_marks.specs.Marks.{marks_of};
 ghost use Rattle.pause_mark.specs.Marks.{mark_as};
@@ -109,7 +109,7 @@ fn reported(key: &[u8], file: &[u8]) -> Result<Report, Refusal>
 
 // The report's line. Nothing is written before the answer is settled.
 pub fn report(key: &[u8], file: &[u8], out: &mut [u8]) -> Result<usize, Refusal>
-    ensures { outcome_in result out.new ≡ reporting key.now file.now out.old }
+    ensures { outcome result out.new ≡ reporting key.now file.now out.old }
 {
     let r = reported(key, file)?;
     let length = line::line_length(r);
@@ -123,7 +123,7 @@ pub fn report(key: &[u8], file: &[u8], out: &mut [u8]) -> Result<usize, Refusal>
 // The report's six numbers in place of the line.
 #[tactic(auto, using(crate::proofs::Settled::few_figures))]
 pub fn figures(key: &[u8], file: &[u8], out: &mut [u64]) -> Result<usize, Refusal>
-    ensures { outcome_in result out.new ≡ reporting_figures key.now file.now out.old }
+    ensures { outcome result out.new ≡ reporting_figures key.now file.now out.old }
 {
     let r = reported(key, file)?;
     if out.len() < 6 {
