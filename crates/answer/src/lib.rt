@@ -6,7 +6,9 @@ ghost use Rattle.std.specs.Prelude.{◌≡◌, ◌*◌, ◌≤◌};
 ghost use Rattle.answer.specs.Outcomes.{number_of, place_of};
 ghost use Rattle.answer.specs.declared.Refusal.TheVariants.{BadHeader};
 
-use header::BadEntry;
+// The number of a header's first bad entry (request E5): 0 is the count, 1 to 16 the string, 17 what is left over.
+#[derive(Clone, Copy, Debug, PartialEq, Eq)]
+pub struct BadEntry(pub usize);
 
 // Each refusal of document 01.
 #[derive(Clone, Copy, Debug, PartialEq, Eq)]

@@ -18,7 +18,7 @@ use Rattle.paper.specs.DayEdits.{grown, append_fits, append_in, appending}
 use Rattle.laws.proofs.Digits.{below_of, below_take}
 use Rattle.laws.proofs.DayReading.{read_write}
 use Rattle.laws.proofs.DayGrown.{grown_long}
-use Rattle.header.specs.declared.BadEntry.{BadEntry}
+use Rattle.answer.specs.declared.BadEntry.{BadEntry}
 use Rattle.header.specs.Places.{read_as}
 use Rattle.header.proofs.Fits.{reads_fits, bad_fits}
 use Rattle.laws.specs.Placing.{placed}

@@ -12,7 +12,7 @@ use lib.ListN.{length, get_or, take, drop, drop_of_length-le}
 use lib.Seq.{drop-cons, drop-drop, get_or-drop}
 use Rattle.std.specs.Prelude.{Result, Ok, Err, if◌then◌else◌}
 use Rattle.std.specs.Result.{is_err}
-use Rattle.header.specs.declared.BadEntry.{BadEntry}
+use Rattle.answer.specs.declared.BadEntry.{BadEntry}
 use Rattle.header.specs.Places.{read_as}
 use Rattle.header.proofs.Fits.{reads_fits, bad_fits}
 use Rattle.paper.specs.Document01.{reading}

@@ -14,7 +14,7 @@ use Rattle.paper.specs.Strings.{Bytes}
 use Rattle.paper.specs.Document01.{reading}
 use Rattle.paper.specs.DayFile.{value, header_fits, before, read_headers, read_records}
 use Rattle.laws.proofs.DaySteps.{header_reads, header_past, header_unread, record_reads, record_past, record_outside}
-use Rattle.header.specs.declared.BadEntry.{BadEntry}
+use Rattle.answer.specs.declared.BadEntry.{BadEntry}
 use Rattle.header.specs.Places.{read_as}
 use Rattle.header.proofs.Fits.{reads_fits, bad_fits}
 use Rattle.day_steps.specs.Walks.{entry_at, record_of}

@@ -11,7 +11,7 @@ use Rattle.laws.proofs.Strings.{⊕_assoc, ⊕_zeros}
 use Rattle.laws.proofs.Hash.{hash_more, hash_none}
 use Rattle.header.specs.Places.{entry_at, count_of}
 use Rattle.header.specs.declared.Place.{Place}
-use Rattle.header.specs.declared.BadEntry.{BadEntry}
+use Rattle.answer.specs.declared.BadEntry.{BadEntry}
 use Rattle.std.specs.Prelude.{Some, None, Ok, Err}
 use Rattle.header.proofs.Walk.{count_reads, entry_reads, end_reads, end_bad}
 use Rattle.hash.specs.Delta.{delta_of}

@@ -6,7 +6,7 @@ use Prim.Native.Nat.{ℕ}
 use Rattle.paper.specs.Document01.{Read, as_strings, bad_entry, reading, strings_of, read_header}
 use Rattle.paper.specs.Strings.{Bytes}
 use Rattle.paper.specs.DayFile.{header_fits, present}
-use Rattle.header.specs.declared.BadEntry.{BadEntry}
+use Rattle.answer.specs.declared.BadEntry.{BadEntry}
 use Rattle.header.specs.Places.{read_as}
 
 reads : (r : Read) (n : ℕ) → Ok n ≡ read_as r → present (strings_of r) ≡ true

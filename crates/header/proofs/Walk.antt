@@ -14,7 +14,7 @@ use Rattle.std.specs.Prelude.{if◌then◌else◌, Option, Some, None, Result, O
 use Rattle.paper.specs.Strings.{Bytes}
 use Rattle.paper.specs.Document01.{most_strings, longest_string, Read, as_strings, bad_entry, in_front, read_strings, reading}
 use Rattle.header.specs.declared.Place.{Place}
-use Rattle.header.specs.declared.BadEntry.{BadEntry}
+use Rattle.answer.specs.declared.BadEntry.{BadEntry}
 use Rattle.header.specs.Places.{size_at, entry_at, count_of, bad, read_as}
 
 -- ---- The count

@@ -3,7 +3,7 @@ use Rattle.std.specs.Prelude.{◌&&◌, [], ◌∷◌, ℕ, ◌+◌, ◌-◌, �
 use Rattle.paper.specs.Strings.{Bytes}
 use Rattle.paper.specs.Document01.{most_strings, longest_string, Read, as_strings, bad_entry}
 use Rattle.header.specs.declared.Place.{Place}
-use Rattle.header.specs.declared.BadEntry.{BadEntry}
+use Rattle.answer.specs.declared.BadEntry.{BadEntry}
 
 -- the number that the two bytes at a place represent
 abbrev pub size_at : Bytes → ℕ → ℕ

@@ -5,16 +5,14 @@ ghost use Rattle.std.specs.Prelude.{◌≡◌, ◌<◌};
 ghost use Rattle.paper.specs.Document01.{reading};
 ghost use Rattle.header.specs.Places.{entry_at, Within, count_of, Few, read_as};
 
+pub use answer::BadEntry;
+
 // A string's start and end in the header.
 #[derive(Clone, Copy, Debug, PartialEq, Eq)]
 pub struct Place {
     pub start: usize,
     pub end: usize,
 }
-
-// The number of a header's first bad entry (request E5): 0 is the count, 1 to 16 the string, 17 what is left over.
-#[derive(Clone, Copy, Debug, PartialEq, Eq)]
-pub struct BadEntry(pub usize);
 
 // The entry whose two length bytes, high byte first, stand at a place of h. The tests subtract, since a sum with at could wrap.
 #[tactic(auto, unfolding(crate::specs::Places::entry_at))]

@@ -17,7 +17,7 @@ use Rattle.paper.specs.Pause.{header_mark, mark_of}
 use Rattle.laws.proofs.Headers.{AllFit, read_write, read_readable}
 use Rattle.laws.proofs.DayWritten.{strings_long}
 use Rattle.header.specs.declared.Place.{Place}
-use Rattle.header.specs.declared.BadEntry.{BadEntry}
+use Rattle.answer.specs.declared.BadEntry.{BadEntry}
 use Rattle.header.specs.Places.{size_at, entry_at, read_as}
 use Rattle.answer.specs.declared.Refusal.{Refusal}
 use Rattle.answer.specs.declared.Refusal.TheVariants.{BadHeader, NoLocale}

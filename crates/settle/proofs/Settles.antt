@@ -15,7 +15,7 @@ use Rattle.paper.specs.Figure5.{encrypt, decrypt}
 use Rattle.paper.specs.Document01.{OutcomeAt, beside, Read, as_strings, bad_entry, reading, strings_of, read_header, refused, done, longest_sealed, longest_stretch, seal_under, sealing, opened, open_under, opening}
 use Rattle.laws.proofs.Headers.{reads_as}
 use Rattle.std.specs.Prelude.{Ok, Err}
-use Rattle.header.specs.declared.BadEntry.{BadEntry}
+use Rattle.answer.specs.declared.BadEntry.{BadEntry}
 use Rattle.header.specs.Places.{read_as}
 use Rattle.answer.specs.declared.Refusal.{Refusal}
 use Rattle.answer.specs.Outcomes.{number_of, place_of}
