@@ -56,14 +56,16 @@ module _ {A : Type 0} (d : A) where
   one_refused : (r s : Refusal) → number_of r ≡ number_of s → place_of r ≡ place_of s → ◌≡◌ {A = Result A Refusal} (Err r) (Err s)
   one_refused r s e f = sym (refused_again r) ∙ (λ i. answer_of d (e i) (f i)) ∙ refused_again s
 
+-- what an Ok keeps, with the number and the place, is the whole answer
+pub one_kept : {A : Type 0} (kept : Result A Refusal → A) → ((a : A) → kept (Ok a) ≡ a) → (z w : Result A Refusal)
+    → number_in z ≡ number_in w → kept z ≡ kept w → place_in z ≡ place_in w → z ≡ w
+one_kept kept back (Ok a) (Ok b) e s p = ap Ok (sym (back a) ∙ s ∙ back b)
+one_kept kept back (Ok a) (Err r) e s p = absurd (refuses r (sym e))
+one_kept kept back (Err r) (Ok a) e s p = absurd (refuses r e)
+one_kept kept back (Err r) (Err q) e s p = one_refused (kept (Err r)) r q e p
+
 pub one_answer : (z w : Result ℕ Refusal) → number_in z ≡ number_in w → size_in z ≡ size_in w → place_in z ≡ place_in w → z ≡ w
-one_answer (Ok n) (Ok m) e s p = ap Ok s
-one_answer (Ok n) (Err r) e s p = absurd (refuses r (sym e))
-one_answer (Err r) (Ok n) e s p = absurd (refuses r e)
-one_answer (Err r) (Err q) e s p = one_refused 0 r q e p
+one_answer = one_kept size_in (λ n. refl)
 
 pub one_test : (z w : Result (Unit {0}) Refusal) → number_in z ≡ number_in w → place_in z ≡ place_in w → z ≡ w
-one_test (Ok n) (Ok m) e p = refl
-one_test (Ok n) (Err r) e p = absurd (refuses r (sym e))
-one_test (Err r) (Ok n) e p = absurd (refuses r e)
-one_test (Err r) (Err q) e p = one_refused tt r q e p
+one_test z w e p = one_kept (λ r. tt) (λ u. refl) z w e refl p

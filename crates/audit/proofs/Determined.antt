@@ -18,12 +18,13 @@ use Rattle.paper.specs.Strings.{Bytes, tab}
 use Rattle.paper.specs.Section7.{◌·◌}
 use Rattle.paper.specs.Figure6 as figure6
 use Rattle.paper.specs.Document01.{Outcome, OutcomeAt}
-use Rattle.answer.specs.Outcomes.{number_in, size_in, place_in, outcome, outcome_at}
+use Rattle.answer.specs.Outcomes.{number_in, place_in, outcome, outcome_at}
 use Rattle.answer.specs.declared.Refusal.{Refusal}
-use Rattle.answer.proofs.Refusals.{one_answer, one_test}
+use Rattle.answer.proofs.Refusals.{one_kept, one_answer, one_test}
 use Rattle.settle.specs.Settled.{Settled, settled_by}
 use Rattle.answer.specs.declared.Refusal.TheVariants.{KeyLength, LongStretch, BadHeader, TooLong, ShortSealed, NoRoom, DoesNotOpen, LongItem, NoRecord, NoLocale, NoPause, BadList}
-use Rattle.audit.proofs.Numbers.{building_no_3, writing_no_3, clearing_no_3, appending_no_3}
+use Rattle.audit.proofs.Numbers.{building_no_3, writing_no_3, listing_no_3, clearing_no_3, appending_no_3}
+use Rattle.audit.proofs.ReadFiles.{opening_record_no_3}
 use Rattle.std.specs.Prelude.{Result, Ok, Err}
 use Rattle.paper.specs.DayFile.{before, read_records, Listing}
 use Rattle.day_steps.specs.declared.Entry.{Entry}
@@ -176,7 +177,7 @@ one : {A : Type 0} {x y z : A} → x ≡ z → y ≡ z → x ≡ y
 one p q = p ∙ sym q
 
 -- beside another number than 3 the place is 0
-no_place : (z : Result ℕ Refusal) → (number_in z ≡ 3 → ⊥) → place_in z ≡ 0
+no_place : {A : Type 0} (z : Result A Refusal) → (number_in z ≡ 3 → ⊥) → place_in z ≡ 0
 no_place (Ok n) f = refl
 no_place (Err KeyLength) f = refl
 no_place (Err LongStretch) f = refl
@@ -209,18 +210,13 @@ one_settled : (z w : Result (Unit {0}) Refusal) (s : Settled) → settled_by z �
 one_settled z w s p q = let e : settled_by z ≡ settled_by w = one p q in one_test z w (ap (λ (s : Settled). s.number) e) (ap (λ (s : Settled). s.at) e)
 
 -- the same of a listing
-one_listing : (z w : Result Listed Refusal) (X Y : List ℕ) (o : Listing) → listing_as z X ≡ o → listing_as w Y ≡ o
-    → (number_in z ≡ number_in w) × (counts_in z ≡ counts_in w) × (X ≡ Y)
-one_listing z w X Y o p q =
+one_listing : (z w : Result Listed Refusal) (X Y : List ℕ) (o : Listing) → (o.number ≡ 3 → ⊥) → listing_as z X ≡ o → listing_as w Y ≡ o → (z ≡ w) × (X ≡ Y)
+one_listing z w X Y o f p q =
     let e : listing_as z X ≡ listing_as w Y = one p q in
-    (ap (λ (o : Listing). o.number) e, ap (λ (o : Listing). record { headers = o.headers; records = o.records }) e, ap (λ (o : Listing). o.places) e)
-
--- a door that hands on what opening answers: its contract has no place, and tells the number and the length
-one_opened : (z w : Result ℕ Refusal) (X Y : Bytes) (o : Outcome) → outcome z X ≡ o → outcome w Y ≡ o
-    → (number_in z ≡ number_in w) × (size_in z ≡ size_in w) × (X ≡ Y)
-one_opened z w X Y o p q =
-    let e : outcome z X ≡ outcome w Y = one p q in
-    (ap (λ (o : Outcome). o.number) e, ap (λ (o : Outcome). o.size) e, ap (λ (o : Outcome). o.output) e)
+    let zero = no_place z (λ t. f (sym (ap (λ (o : Listing). o.number) p) ∙ t)) in
+    let other = no_place w (λ t. f (sym (ap (λ (o : Listing). o.number) q) ∙ t)) in
+    let counts : counts_in z ≡ counts_in w = ap (λ (o : Listing). record { headers = o.headers; records = o.records }) e in
+    (one_kept counts_in (λ c. refl) z w (ap (λ (o : Listing). o.number) e) counts (one zero other), ap (λ (o : Listing). o.places) e)
 
 -- a step over a record and a walk over headers: what is read of the rest tells the two apart
 no_records : (headers : ℕ) (X : Bytes) → read_records headers 0 X ≡ some ([], X)
@@ -637,9 +633,8 @@ day_find_from_determined κs a z w e f p q = one p.0 q.0
 pub day_find_determined : (κs : _) (a : _) (z w : _) (e f : _) → day-find.Learnt κs a z e → day-find.Learnt κs a w f → z ≡ w
 day_find_determined κs a z w e f p q = one p.0 q.0
 
-pub day_list_determined : (κs : _) (a : _) (z w : _) (e f : _) → day-list.Learnt κs a z e → day-list.Learnt κs a w f
-    → (number_in z ≡ number_in w) × (counts_in z ≡ counts_in w) × (e.1.0.now ≡ f.1.0.now)
-day_list_determined κs a z w e f p q = one_listing z w e.1.0.now f.1.0.now _ p q
+pub day_list_determined : (κs : _) (a : _) (z w : _) (e f : _) → day-list.Learnt κs a z e → day-list.Learnt κs a w f → (z ≡ w) × (e.1.0.now ≡ f.1.0.now)
+day_list_determined κs a z w e f p q = one_listing z w e.1.0.now f.1.0.now _ (listing_no_3 a.0.now a.1.0.now) p q
 
 pub day_marks_marks_determined : (κs : _) (a : _) (z w : _) (e f : _) → day-marks-marks.Learnt κs a z e → day-marks-marks.Learnt κs a w f → z ≡ w
 day_marks_marks_determined κs a z w e f p q = one p q
@@ -647,9 +642,8 @@ day_marks_marks_determined κs a z w e f p q = one p q
 pub day_marks_find_determined : (κs : _) (a : _) (z w : _) (e f : _) → day-marks-find.Learnt κs a z e → day-marks-find.Learnt κs a w f → z ≡ w
 day_marks_find_determined κs a z w e f p q = one p.0 q.0
 
-pub day_open_determined : (κs : _) (a : _) (z w : _) (e f : _) → day-open.Learnt κs a z e → day-open.Learnt κs a w f
-    → (number_in z ≡ number_in w) × (size_in z ≡ size_in w) × (e.1.1.1.0.now ≡ f.1.1.1.0.now)
-day_open_determined κs a z w e f p q = one_opened z w e.1.1.1.0.now f.1.1.1.0.now _ p q
+pub day_open_determined : (κs : _) (a : _) (z w : _) (e f : _) → day-open.Learnt κs a z e → day-open.Learnt κs a w f → (z ≡ w) × (e.1.1.1.0.now ≡ f.1.1.1.0.now)
+day_open_determined κs a z w e f p q = one_outcome z w e.1.1.1.0.now f.1.1.1.0.now _ (opening_record_no_3 a.0.now a.1.0.now a.1.1.0 a.1.1.1.0.now) p q
 
 pub day_headers_fit_determined : (κs : _) (a : _) (z w : _) (e f : _) → day-headers-fit.Learnt κs a z e → day-headers-fit.Learnt κs a w f → z ≡ w
 day_headers_fit_determined κs a z w e f p q = one p q

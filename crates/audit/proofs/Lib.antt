@@ -5,6 +5,7 @@ pub mod Lengths
 pub mod AcceptedStrings
 pub mod LogHeaders
 pub mod BadEntries
+pub mod ReadFiles
 pub mod DayFiles
 pub mod EditedDays
 pub mod Determined

@@ -193,6 +193,9 @@ listing_gives file places = go (read_day file)
     go none = refl
     go (some day) = pick day (ltb (length places) (length (day_places day))) refl
 
+pub listing_no_3 : (file : Bytes) (places : List ℕ) → (listing file places).number ≡ 3 → ⊥
+listing_no_3 file places e = true≢false (sym (listing_gives file places) ∙ ap (among of_day_listing) e)
+
 pub day_list_number : (κs : _) (a : _) (n : _) (e : _) → aez-day-list.Learnt κs a n e → among of_day_listing n ≡ true
 day_list_number κs a n e p = ap (among of_day_listing) p.0 ∙ listing_gives a.0.now a.1.0.now
 

@@ -16,6 +16,7 @@ use Rattle.paper.specs.Pause.{Pause, comma, point, header_mark, read_pause, paus
 use Rattle.paper.specs.Ledger.{Report, pauses_of, report_of, line_of, figures_of, report_in, reporting, reporting_figures}
 use Rattle.laws.proofs.PauseParts.{comma_mark, point_mark, never_two_values}
 use Rattle.pause.specs.Fields.{field_of}
+use Rattle.answer.proofs.Refusals.{one_answer}
 use Rattle.audit.proofs.Numbers.{among}
 use Rattle.audit.proofs.Determined.{one_outcome}
 use Rattle.pause_unit.proofs.is_rest.Reads as pause-is-rest
@@ -49,8 +50,10 @@ pause_header_mark_determined κs a z w e f p q = p ∙ sym q
 pub pause_read_text_determined : (κs : _) (a : _) (z w : _) (e f : _) → pause-read-text.Learnt κs a z e → pause-read-text.Learnt κs a w f → z ≡ w
 pause_read_text_determined κs a z w e f p q = p ∙ sym q
 
-pub pause_read_field_determined : (κs : _) (a : _) (z w : _) (e f : _) → pause-read-field.Learnt κs a z e → pause-read-field.Learnt κs a w f → field_of z ≡ field_of w
-pause_read_field_determined κs a z w e f p q = p ∙ sym q
+pub pause_read_field_determined : (κs : _) (a : _) (z w : _) (e f : _) → pause-read-field.Learnt κs a z e → pause-read-field.Learnt κs a w f → z ≡ w
+pause_read_field_determined κs a z w e f p q =
+    let same : field_of z ≡ field_of w = p.0 ∙ sym q.0 in
+    one_answer z w (ap (λ (x : Pause). x.number) same) (ap (λ (x : Pause). x.microseconds) same) (p.1 ∙ sym q.1)
 
 pub exported_pause_determined : (κs : _) (a : _) (z w : _) (e f : _) → exported-pause.Learnt κs a z e → exported-pause.Learnt κs a w f
     → (z ≡ w) × (e.1.1.0.now ≡ f.1.1.0.now)
