@@ -1,9 +1,10 @@
 -- The branches of lines 100 to 115: the empty text or another, a string of the stretch's length or a longer one.
 use mathlib.Core.Bool.{Bool, true, false}
-use mathlib.Core.List.{[], ◌∷◌, ◌++◌}
+use mathlib.Core.List.{[], ◌∷◌, ◌++◌, append-nil}
 use mathlib.Core.Option.{Option, none, some}
 use mathlib.Core.Path.{◌≡◌, refl, ap, ap₂, sym, ◌∙◌}
-use Prim.Native.Nat.{ℕ, zero, suc, ◌-◌, ◌≤◌, ◌<◌}
+use Prim.Native.Nat.{ℕ, zero, suc, ◌+◌, ◌-◌, ◌≤◌, ◌<◌}
+use native.Mathlib.Nat.{zero-add}
 use native.Mathlib.Omega.{arith}
 use borrow.Author.Tests.{eq-eqb, ne_eqb, le-ltb, lt-ltb}
 use lib.ListN.{length, take, drop, replicate, length-append, length-drop, take-append-drop}
@@ -12,6 +13,7 @@ use Rattle.std.specs.Prelude.{if◌then◌else◌}
 use Rattle.paper.specs.Strings.{Bytes, same}
 use Rattle.paper.specs.Figure6.{BlockFunction, prf_from}
 use Rattle.paper.specs.Figure5.{encipher_tiny, decipher_tiny, core, encipher, decipher, unpadded}
+use Rattle.laws.proofs.Tables.{no_entries}
 use Rattle.laws.proofs.Fronts.{lent_end}
 use Rattle.laws.proofs.Sealing.{same_equal}
 use Rattle.wide.specs.declared.Way.{Way}
@@ -39,6 +41,14 @@ module _ (f : BlockFunction) (Δ X Y : Bytes) where
 -- ---- A string put first in a buffer
 
 -- mid is the buffer out with M first
+module _ (M out mid : Bytes) (put : mid ≡ take 0 out ++ M ++ drop (0 + length M) out) where
+  pub put_first : mid ≡ M ++ drop (length M) out
+  put_first = put ∙ ap (λ (k : ℕ). M ++ drop k out) (zero-add (length M))
+
+  -- a string that fills the buffer
+  pub put_all : length M ≡ length out → mid ≡ M
+  put_all h = put_first ∙ ap (λ (l : Bytes). M ++ l) (no_entries (drop (length M) out) (length-drop (length M) out ∙ omega arith)) ∙ append-nil M
+
 module _ (M out mid : Bytes) (copied : mid ≡ M ++ drop (length M) out) where
   -- M first, and zeros for the rest, which was lent
   cleared : (zs : Bytes) → length M ≤ length out → zs ≡ replicate (length (take (length mid - length M) (drop (length M) mid))) 0

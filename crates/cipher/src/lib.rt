@@ -33,7 +33,7 @@ pub fn encrypt(k: key::Key, delta: [u8; 16], text: &[u8], out: &mut [u8])
         hash::prf(k, delta, out)
     } else {
         let n = text.len();
-        out[..n].copy_from_slice(text);
+        slices::copy(out, 0, text);
         out[n..].fill(0);
         cipher_in_place(k, delta, Way::Encipher, out)
     }
@@ -61,7 +61,7 @@ pub fn decrypt(k: key::Key, delta: [u8; 16], stretch: usize, sealed: &[u8], out:
     if n == stretch {
         return decrypt_empty(k, delta, sealed, out);
     }
-    out.copy_from_slice(sealed);
+    slices::copy(out, 0, sealed);
     cipher_in_place(k, delta, Way::Decipher, out);
     // Every byte is compared, whatever is found (`slices`), so that the time does not tell where they differ.
     if slices::same_bytes(&out[n - stretch..], &[0u8; 64][..stretch]) {

@@ -20,12 +20,15 @@ pub fn store(s: &mut [u8], at: usize, b: [u8; 16])
     s[at..at + 16].copy_from_slice(&b);
 }
 
-// The bytes t put at a place of s, and every other byte of s kept.
+// The bytes t put at a place of s, and every other byte of s kept. By a loop: `copy_from_slice` from a slice that is lent is a call of memmove,
+// and then whoever links the library must have that too.
 pub fn copy(s: &mut [u8], at: usize, t: &[u8])
     requires { at + length t.now ≤ length s.old }
     ensures { s.new ≡ take at s.old ++ t.now ++ drop (at + length t.now) s.old }
 {
-    s[at..at + t.len()].copy_from_slice(t);
+    for i in 0..t.len() {
+        s[at + i] = t[i];
+    }
 }
 
 // Zero for every byte of s.

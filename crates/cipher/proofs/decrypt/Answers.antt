@@ -4,7 +4,7 @@ use lib.Arith.{lt_of_le-ne}
 use lib.ListN.{replicate}
 use Rattle.paper.specs.Figure6.{E}
 use Rattle.key.specs.Meaning.{blocks}
-use Rattle.cipher.proofs.Branches.{empty_answer, answer}
+use Rattle.cipher.proofs.Branches.{put_all, empty_answer, answer}
 use Rattle.cipher.proofs.decrypt.Goals as goal
 
 pub returns-then-n-stretch : goal.returns-then-n-stretch
@@ -18,7 +18,7 @@ returns-then-same_bytes c =
     let a = c.args in
     let d = c.cipher_in_place in
     let more = lt_of_le-ne (omega (arith, c.requires.0, c.requires.2)) (λ e. c.if-n-stretch.false (sym e)) in
-    answer (E (blocks a.k)) a.delta a.stretch a.sealed.now c.copy_from_slice.new.self d.new.s c.copy_from_slice.ensures.after d.ensures d.auto.s more
+    answer (E (blocks a.k)) a.delta a.stretch a.sealed.now c.copy.new.s d.new.s (put_all a.sealed.now a.out.now c.copy.new.s c.copy.ensures c.requires.0) d.ensures d.auto.s more
     c.same_bytes.result true c.if-same_bytes.true c.requires.3 c.same_bytes.ensures
 
 pub returns : goal.returns
@@ -27,7 +27,7 @@ returns c =
     let d = c.cipher_in_place in
     let more = lt_of_le-ne (omega (arith, c.requires.0, c.requires.2)) (λ e. c.if-n-stretch.false (sym e)) in
     let no =
-    answer (E (blocks a.k)) a.delta a.stretch a.sealed.now c.copy_from_slice.new.self d.new.s c.copy_from_slice.ensures.after d.ensures d.auto.s more
+    answer (E (blocks a.k)) a.delta a.stretch a.sealed.now c.copy.new.s d.new.s (put_all a.sealed.now a.out.now c.copy.new.s c.copy.ensures c.requires.0) d.ensures d.auto.s more
     c.same_bytes.result false c.if-same_bytes.false c.requires.3 c.same_bytes.ensures in
     let zeros : c.fill.new.self ≡ replicate (length d.new.s) 0 = search rules in
     (no.0, zeros ∙ no.1)
