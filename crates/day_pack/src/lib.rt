@@ -28,22 +28,21 @@ struct Counts<'a> {
 }
 
 impl<'a> Counts<'a> {
-    // The first n bits counted.
-    fn of(table: &'a [u8; 1638], n: usize) -> Counts<'a>
-        requires { n ≤ 13104 }
-        ensures table { result.table.now ≡ table.now }
-        ensures all { result.all ≡ bits_below table.now n }
-        ensures before { Tallied result.before table.now n }
+    // The first n bits counted, where none was. In place: what a call gives back is moved once more, with all that it holds.
+    fn count(&mut self, n: usize)
+        requires { (n ≤ 13104) × (self.old.before ≡ replicate 205 0) }
+        ensures table { self.new.table.now ≡ self.old.table.now }
+        ensures all { self.new.all ≡ bits_below self.old.table.now n }
+        ensures before { Tallied self.new.before self.old.table.now n }
     {
-        let mut before = [0; 205];
         let mut all = 0;
         for i in 0..n {
             if i % 64 == 0 {
-                before[i / 64] = all;
+                self.before[i / 64] = all;
             }
-            all += bit(table, i);
+            all += bit(self.table, i);
         }
-        Counts { table, before, all }
+        self.all = all;
     }
 
     // How many bits before bit n are set, its group's count being noted.
@@ -194,7 +193,12 @@ fn put_marked(
     ensures { (result ≡ length (cleared_file (read_day (take size out.old)) dropped.now)) × (out.new ≡ cleared_buffer (cleared_file (read_day (take size out.old)) dropped.now) size out.old) }
 {
     let last = size - 4 - 4 * records;
-    let counts = Counts::of(table, headers);
+    let mut counts = Counts {
+        table,
+        before: [0; 205],
+        all: 0,
+    };
+    counts.count(headers);
     numbers::put::<4>(out, 0, counts.all);
     let to = pack_headers(out, headers, table);
     numbers::put::<4>(out, to, kept);

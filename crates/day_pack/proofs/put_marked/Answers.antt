@@ -26,10 +26,10 @@ overflow_sub-last-2 c =
     let b : Begun = begun c.requires.0 (λ i. search rules) in
     omega (arith, clears.size_is b)
 
-pub of-counts-requires : goal.of-counts-requires
-of-counts-requires c =
+pub count-requires : goal.count-requires
+count-requires c =
     let b : Begun = begun c.requires.0 (λ i. search rules) in
-    clears.headers_few b
+    (clears.headers_few b, refl)
 
 pub put-requires-clause-inside : goal.put-requires-clause-inside
 put-requires-clause-inside c =
@@ -40,14 +40,14 @@ pub pack_headers-to-requires : goal.pack_headers-to-requires
 pack_headers-to-requires c =
     let b : Begun = begun c.requires.0 (λ i. search rules) in
     let m : Marked b = record { table = c.args.table.now; marks = c.requires.1 } in
-    let h : CountPut b m = record { count = c.of-counts.result.all; count_is = c.of-counts.ensures.all; out = c.put.new.out; put = c.put.ensures } in
+    let h : CountPut b m = record { count = c.count.new.self.all; count_is = c.count.ensures.all; out = c.put.new.out; put = c.put.ensures } in
     (clears.heads_ready b m h, clears.headers_few b)
 
 pub put-requires-2-clause-inside : goal.put-requires-2-clause-inside
 put-requires-2-clause-inside c =
     let b : Begun = begun c.requires.0 (λ i. search rules) in
     let m : Marked b = record { table = c.args.table.now; marks = c.requires.1 } in
-    let h : CountPut b m = record { count = c.of-counts.result.all; count_is = c.of-counts.ensures.all; out = c.put.new.out; put = c.put.ensures } in
+    let h : CountPut b m = record { count = c.count.new.self.all; count_is = c.count.ensures.all; out = c.put.new.out; put = c.put.ensures } in
     let to = c.pack_headers-to in
     let q : HeadersPut b m h = record { to = to.result; to_is = to.ensures.0; out = to.new.out; put = to.ensures.1 } in
     omega (arith, clears.to_room b m h q, clears.size_is b, c.requires.0.inside, c.pack_headers-to.auto.out, c.put.auto.out)
@@ -56,7 +56,7 @@ pub overflow_add-start : goal.overflow_add-start
 overflow_add-start c =
     let b : Begun = begun c.requires.0 (λ i. search rules) in
     let m : Marked b = record { table = c.args.table.now; marks = c.requires.1 } in
-    let h : CountPut b m = record { count = c.of-counts.result.all; count_is = c.of-counts.ensures.all; out = c.put.new.out; put = c.put.ensures } in
+    let h : CountPut b m = record { count = c.count.new.self.all; count_is = c.count.ensures.all; out = c.put.new.out; put = c.put.ensures } in
     let to = c.pack_headers-to in
     let q : HeadersPut b m h = record { to = to.result; to_is = to.ensures.0; out = to.new.out; put = to.ensures.1 } in
     omega (arith, clears.to_room b m h q, clears.size_is b, clears.size_short b)
@@ -65,29 +65,29 @@ pub pack_records-end-requires : goal.pack_records-end-requires
 pack_records-end-requires c =
     let b : Begun = begun c.requires.0 (λ i. search rules) in
     let m : Marked b = record { table = c.args.table.now; marks = c.requires.1 } in
-    let h : CountPut b m = record { count = c.of-counts.result.all; count_is = c.of-counts.ensures.all; out = c.put.new.out; put = c.put.ensures } in
+    let h : CountPut b m = record { count = c.count.new.self.all; count_is = c.count.ensures.all; out = c.put.new.out; put = c.put.ensures } in
     let to = c.pack_headers-to in
     let q : HeadersPut b m h = record { to = to.result; to_is = to.ensures.0; out = to.new.out; put = to.ensures.1 } in
     let n : NumberPut b m h q = record { count = c.args.kept; count_is = c.requires.2; out = c.put-2.new.out; put = c.put-2.ensures } in
-    let counts = c.of-counts in (
+    let counts = c.count in (
       clears.records_ready b m h q n,
       c.requires.0.rises,
       clears.to_room b m h q,
       omega (arith, clears.size_is b, c.requires.0.inside, clears.out₃_long b m h q n),
-      subst (λ (u : List ℕ). CountedAll counts.result.before u (take (last_of b) n.out) b.first b.records) (sym counts.ensures.table)
-          (clears.records_counted_at b m h q n counts.result.before counts.ensures.before),
+      subst (λ (u : List ℕ). CountedAll counts.new.self.before u (take (last_of b) n.out) b.first b.records) (sym counts.ensures.table)
+          (clears.records_counted_at b m h q n counts.new.self.before counts.ensures.before),
     )
 
 pub put_index-requires : goal.put_index-requires
 put_index-requires c =
     let b : Begun = begun c.requires.0 (λ i. search rules) in
     let m : Marked b = record { table = c.args.table.now; marks = c.requires.1 } in
-    let h : CountPut b m = record { count = c.of-counts.result.all; count_is = c.of-counts.ensures.all; out = c.put.new.out; put = c.put.ensures } in
+    let h : CountPut b m = record { count = c.count.new.self.all; count_is = c.count.ensures.all; out = c.put.new.out; put = c.put.ensures } in
     let to = c.pack_headers-to in
     let q : HeadersPut b m h = record { to = to.result; to_is = to.ensures.0; out = to.new.out; put = to.ensures.1 } in
     let n : NumberPut b m h q = record { count = c.args.kept; count_is = c.requires.2; out = c.put-2.new.out; put = c.put-2.ensures } in
     let end = c.pack_records-end in
-    let r : RecordsPut b m h q n = records_put b m h q n c.of-counts.result.table.now c.of-counts.ensures.table end.result end.new.out end.ensures.0 end.ensures.1 in
+    let r : RecordsPut b m h q n = records_put b m h q n c.count.new.self.table.now c.count.ensures.table end.result end.new.out end.ensures.0 end.ensures.1 in
     let room = clears.end_room b m h q n r in (
       clears.index_ready b m h q n r,
       omega (arith, room, c.requires.0.inside, clears.out₄_long b m h q n r),
@@ -98,60 +98,60 @@ pub overflow_mul-n : goal.overflow_mul-n
 overflow_mul-n c =
     let b : Begun = begun c.requires.0 (λ i. search rules) in
     let m : Marked b = record { table = c.args.table.now; marks = c.requires.1 } in
-    let h : CountPut b m = record { count = c.of-counts.result.all; count_is = c.of-counts.ensures.all; out = c.put.new.out; put = c.put.ensures } in
+    let h : CountPut b m = record { count = c.count.new.self.all; count_is = c.count.ensures.all; out = c.put.new.out; put = c.put.ensures } in
     let to = c.pack_headers-to in
     let q : HeadersPut b m h = record { to = to.result; to_is = to.ensures.0; out = to.new.out; put = to.ensures.1 } in
     let n : NumberPut b m h q = record { count = c.args.kept; count_is = c.requires.2; out = c.put-2.new.out; put = c.put-2.ensures } in
     let end = c.pack_records-end in
-    let r : RecordsPut b m h q n = records_put b m h q n c.of-counts.result.table.now c.of-counts.ensures.table end.result end.new.out end.ensures.0 end.ensures.1 in
+    let r : RecordsPut b m h q n = records_put b m h q n c.count.new.self.table.now c.count.ensures.table end.result end.new.out end.ensures.0 end.ensures.1 in
     omega (arith, clears.end_room b m h q n r, clears.size_short b)
 
 pub overflow_add-n-2 : goal.overflow_add-n-2
 overflow_add-n-2 c =
     let b : Begun = begun c.requires.0 (λ i. search rules) in
     let m : Marked b = record { table = c.args.table.now; marks = c.requires.1 } in
-    let h : CountPut b m = record { count = c.of-counts.result.all; count_is = c.of-counts.ensures.all; out = c.put.new.out; put = c.put.ensures } in
+    let h : CountPut b m = record { count = c.count.new.self.all; count_is = c.count.ensures.all; out = c.put.new.out; put = c.put.ensures } in
     let to = c.pack_headers-to in
     let q : HeadersPut b m h = record { to = to.result; to_is = to.ensures.0; out = to.new.out; put = to.ensures.1 } in
     let n : NumberPut b m h q = record { count = c.args.kept; count_is = c.requires.2; out = c.put-2.new.out; put = c.put-2.ensures } in
     let end = c.pack_records-end in
-    let r : RecordsPut b m h q n = records_put b m h q n c.of-counts.result.table.now c.of-counts.ensures.table end.result end.new.out end.ensures.0 end.ensures.1 in
+    let r : RecordsPut b m h q n = records_put b m h q n c.count.new.self.table.now c.count.ensures.table end.result end.new.out end.ensures.0 end.ensures.1 in
     omega (arith, clears.end_room b m h q n r, clears.size_short b)
 
 pub slice_bounds-clear-count : goal.slice_bounds-clear-count
 slice_bounds-clear-count c =
     let b : Begun = begun c.requires.0 (λ i. search rules) in
     let m : Marked b = record { table = c.args.table.now; marks = c.requires.1 } in
-    let h : CountPut b m = record { count = c.of-counts.result.all; count_is = c.of-counts.ensures.all; out = c.put.new.out; put = c.put.ensures } in
+    let h : CountPut b m = record { count = c.count.new.self.all; count_is = c.count.ensures.all; out = c.put.new.out; put = c.put.ensures } in
     let to = c.pack_headers-to in
     let q : HeadersPut b m h = record { to = to.result; to_is = to.ensures.0; out = to.new.out; put = to.ensures.1 } in
     let n : NumberPut b m h q = record { count = c.args.kept; count_is = c.requires.2; out = c.put-2.new.out; put = c.put-2.ensures } in
     let end = c.pack_records-end in
-    let r : RecordsPut b m h q n = records_put b m h q n c.of-counts.result.table.now c.of-counts.ensures.table end.result end.new.out end.ensures.0 end.ensures.1 in
+    let r : RecordsPut b m h q n = records_put b m h q n c.count.new.self.table.now c.count.ensures.table end.result end.new.out end.ensures.0 end.ensures.1 in
     omega (arith, clears.end_room b m h q n r)
 
 pub slice_bounds-clear-start : goal.slice_bounds-clear-start
 slice_bounds-clear-start c =
     let b : Begun = begun c.requires.0 (λ i. search rules) in
     let m : Marked b = record { table = c.args.table.now; marks = c.requires.1 } in
-    let h : CountPut b m = record { count = c.of-counts.result.all; count_is = c.of-counts.ensures.all; out = c.put.new.out; put = c.put.ensures } in
+    let h : CountPut b m = record { count = c.count.new.self.all; count_is = c.count.ensures.all; out = c.put.new.out; put = c.put.ensures } in
     let to = c.pack_headers-to in
     let q : HeadersPut b m h = record { to = to.result; to_is = to.ensures.0; out = to.new.out; put = to.ensures.1 } in
     let n : NumberPut b m h q = record { count = c.args.kept; count_is = c.requires.2; out = c.put-2.new.out; put = c.put-2.ensures } in
     let end = c.pack_records-end in
-    let r : RecordsPut b m h q n = records_put b m h q n c.of-counts.result.table.now c.of-counts.ensures.table end.result end.new.out end.ensures.0 end.ensures.1 in
+    let r : RecordsPut b m h q n = records_put b m h q n c.count.new.self.table.now c.count.ensures.table end.result end.new.out end.ensures.0 end.ensures.1 in
     omega (arith, clears.end_room b m h q n r)
 
 pub returns : goal.returns
 returns c =
     let b : Begun = begun c.requires.0 (λ i. search rules) in
     let m : Marked b = record { table = c.args.table.now; marks = c.requires.1 } in
-    let h : CountPut b m = record { count = c.of-counts.result.all; count_is = c.of-counts.ensures.all; out = c.put.new.out; put = c.put.ensures } in
+    let h : CountPut b m = record { count = c.count.new.self.all; count_is = c.count.ensures.all; out = c.put.new.out; put = c.put.ensures } in
     let to = c.pack_headers-to in
     let q : HeadersPut b m h = record { to = to.result; to_is = to.ensures.0; out = to.new.out; put = to.ensures.1 } in
     let n : NumberPut b m h q = record { count = c.args.kept; count_is = c.requires.2; out = c.put-2.new.out; put = c.put-2.ensures } in
     let end = c.pack_records-end in
-    let r : RecordsPut b m h q n = records_put b m h q n c.of-counts.result.table.now c.of-counts.ensures.table end.result end.new.out end.ensures.0 end.ensures.1 in
+    let r : RecordsPut b m h q n = records_put b m h q n c.count.new.self.table.now c.count.ensures.table end.result end.new.out end.ensures.0 end.ensures.1 in
     let x : IndexPut b m h q n r = record { out = c.put_index.new.out; put = c.put_index.ensures } in
     let last = end.result + 4 + 4 * c.args.kept in
     let file : write_day (cleared b.dropped c.requires.0.day) ≡ cleared_file (read_day (take b.size b.buffer)) b.dropped =
